@@ -1,0 +1,14 @@
+/// A place that a pipe passes with each packet, once the packet's note is up. It answers nothing and decides nothing: a test can hold a
+/// packet there.
+pub trait Gate {
+    /// The packet of this pipe that entered at this tick passes.
+    fn pass(&self, pipe: u8, entered: u64);
+}
+
+/// The gate that holds nobody.
+#[derive(Clone, Copy, Debug, PartialEq, Eq)]
+pub struct OpenGate;
+
+impl Gate for OpenGate {
+    fn pass(&self, _pipe: u8, _entered: u64) {}
+}
