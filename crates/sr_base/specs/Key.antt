@@ -1,17 +1,11 @@
 -- A key as its parts, and as a number.
-use Rattle.std.specs.Prelude.{ℕ, ◌+◌, ◌*◌, ◌^◌, ◌<◌}
+use Rattle.std.specs.Prelude.{ℕ, ◌+◌, ◌*◌, ◌^◌}
 
 -- the client's side of a connection to a virtual address
 pub record KeyView : Type 0 where
   pub vip : ℕ
   pub ip : ℕ
   pub port : ℕ
-
--- the parts are within their ranges
-pub record IsKey (k : KeyView) : Type 0 where
-  pub vip : k.vip < 16
-  pub ip : k.ip < 2 ^ 32
-  pub port : k.port < 2 ^ 16
 
 -- the virtual address above 48 bits, the client's address above 16, the port below
 abbrev pub packed : KeyView → ℕ

@@ -1,5 +1,5 @@
 ghost use Rattle.std.specs.Prelude.{◌≡◌, ℕ, ◌*◌, ◌^◌, ◌<◌, ◌≤◌, MatchOption, Some};
-ghost use Rattle.sr_base.specs.Key.{KeyView, IsKey, packed};
+ghost use Rattle.sr_base.specs.Key.{KeyView, packed};
 
 use std::marker::Model;
 
