@@ -1,0 +1,3 @@
+pub mod Fnv
+pub mod Keyed
+pub mod Uses
