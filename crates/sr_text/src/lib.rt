@@ -1,0 +1,10 @@
+//! The printed text of a log: a head, the skipped records, and the lines of pipes and controller, one line of text each. A line is put
+//! together in a buffer on the stack and goes to the sink in one write.
+#![tactic(auto)]
+
+mod fields;
+mod line_text;
+mod printing;
+mod put;
+
+pub use printing::{print, print_head};

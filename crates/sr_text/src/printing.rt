@@ -1,0 +1,30 @@
+ghost use Rattle.std.specs.Prelude.{◌≡◌, ◌≤◌};
+ghost use Rattle.sr_io.specs.Faults.{Rose};
+ghost use Rattle.sr_io.specs.Sink.{Puts};
+ghost use Rattle.sr_io.specs.declared.sink.Put.TheVariants.{Failed};
+ghost use Rattle.sr_text.specs.LineText.{head_text, line_text};
+
+use crate::line_text::LineText;
+use crate::put::put_line;
+use sr_io::{Put, Sink};
+use sr_law::Line;
+
+/// Prints the first line of a log.
+pub fn print_head<K: Sink>(sink: &mut K) -> Put
+    ensures bytes { Puts result (K.taken sink.old) (K.taken sink.new) head_text }
+    ensures count { K.faults sink.old ≤ K.faults sink.new }
+    ensures failed { result ≡ Failed → Rose (K.faults sink.old) (K.faults sink.new) }
+{
+    sink.write(b"silkroad 1\n")
+}
+
+/// Prints a line, in one write.
+pub fn print<K: Sink>(line: &Line, sink: &mut K) -> Put
+    ensures bytes { Puts result (K.taken sink.old) (K.taken sink.new) (line_text line.now) }
+    ensures count { K.faults sink.old ≤ K.faults sink.new }
+    ensures failed { result ≡ Failed → Rose (K.faults sink.old) (K.faults sink.new) }
+{
+    let mut text = LineText::new();
+    put_line(line, &mut text);
+    sink.write(text.bytes())
+}
