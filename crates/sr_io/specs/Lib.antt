@@ -1,4 +1,10 @@
+pub mod BoundedBytes
+pub mod Calls
 pub mod Faults
+pub mod MemSink
+pub mod MemSource
 pub mod Shelf
 pub mod Sink
 pub mod Source
+pub mod SureSink
+pub mod SureSource

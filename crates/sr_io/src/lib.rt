@@ -2,12 +2,23 @@
 //! a packet passes. Each is a trait whose clauses say what is known of the bytes, where anything is known, and that a fault has a cause.
 #![tactic(auto)]
 
+mod bounded_bytes;
+mod calls;
 mod gate;
+mod mem_sink;
+mod mem_source;
 mod shelf;
 mod sink;
 mod source;
+mod sure_sink;
+mod sure_source;
 
 pub use gate::{Gate, OpenGate};
+pub use mem_sink::MemSink;
+pub use mem_source::MemSource;
 pub use shelf::{FetchRefusal, Shelf};
 pub use sink::{Put, Sink};
 pub use source::{Got, Source};
+pub use std::alloc::AllocError as Memory;
+pub use sure_sink::SureSink;
+pub use sure_source::SureSource;
