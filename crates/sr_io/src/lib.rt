@@ -4,21 +4,26 @@
 
 mod bounded_bytes;
 mod calls;
+mod copied;
 mod gate;
+mod mem_shelf;
 mod mem_sink;
 mod mem_source;
 mod shelf;
 mod sink;
 mod source;
+mod sure_shelf;
 mod sure_sink;
 mod sure_source;
 
 pub use gate::{Gate, OpenGate};
+pub use mem_shelf::MemShelf;
 pub use mem_sink::MemSink;
 pub use mem_source::MemSource;
 pub use shelf::{FetchRefusal, Shelf};
 pub use sink::{Put, Sink};
 pub use source::{Got, Source};
 pub use std::alloc::AllocError as Memory;
+pub use sure_shelf::SureShelf;
 pub use sure_sink::SureSink;
 pub use sure_source::SureSource;
