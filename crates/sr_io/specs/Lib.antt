@@ -1,4 +1,12 @@
+pub mod BoundedBytes
+pub mod Calls
 pub mod Faults
+pub mod MemShelf
+pub mod MemSink
+pub mod MemSource
 pub mod Shelf
 pub mod Sink
 pub mod Source
+pub mod SureShelf
+pub mod SureSink
+pub mod SureSource

@@ -2,12 +2,34 @@
 //! a packet passes. Each is a trait whose clauses say what is known of the bytes, where anything is known, and that a fault has a cause.
 #![tactic(auto)]
 
+mod bounded_bytes;
+mod calls;
+mod copied;
+mod file_shelf;
 mod gate;
+mod mem_shelf;
+mod mem_sink;
+mod mem_source;
+mod read_source;
 mod shelf;
 mod sink;
 mod source;
+mod sure_shelf;
+mod sure_sink;
+mod sure_source;
+mod write_sink;
 
+pub use file_shelf::FileShelf;
 pub use gate::{Gate, OpenGate};
+pub use mem_shelf::MemShelf;
+pub use mem_sink::MemSink;
+pub use mem_source::MemSource;
+pub use read_source::ReadSource;
 pub use shelf::{FetchRefusal, Shelf};
 pub use sink::{Put, Sink};
 pub use source::{Got, Source};
+pub use std::alloc::AllocError as Memory;
+pub use sure_shelf::SureShelf;
+pub use sure_sink::SureSink;
+pub use sure_source::SureSource;
+pub use write_sink::WriteSink;

@@ -1,0 +1,83 @@
+ghost use Rattle.std.specs.Prelude.{◌≡◌, ◌≤◌, [], Some, IfOk};
+ghost use Rattle.sr_io.specs.Faults.{Rose};
+ghost use Rattle.sr_io.specs.MemSink.{write_of, after_mem_write, flush_of, after_flush};
+ghost use Rattle.sr_io.specs.Sink.{Puts};
+ghost use Rattle.sr_io.specs.declared.sink.Put.TheVariants.{Failed};
+
+use crate::bounded_bytes::BoundedBytes;
+use crate::calls::Calls;
+use crate::{Memory, Put, Sink};
+use std::alloc::Global;
+use std::marker::Model;
+
+/// A sink in memory some calls of which fail. Writes and flushes are numbered together.
+#[derive(Drop)]
+pub struct MemSink {
+    taken: BoundedBytes,
+    calls: Calls,
+}
+
+impl Model for MemSink {
+    ghost use Rattle.sr_io.specs.MemSink.{MemSinkView};
+
+    ghost Value = { MemSinkView };
+
+    ghost view = { λ s. record { bytes = s.taken.bytes; room = s.taken.room; calls = s.calls } };
+}
+
+impl MemSink {
+    /// Nothing was taken, and there is room for so many bytes. The calls with the numbers `fails`, from 1, fail.
+    pub fn new(alloc: Global, room: usize, fails: Vec<u64>) -> Result<MemSink, Memory>
+        ensures { IfOk result (λ s. s ≡ record { bytes = []; room = room; calls = record { fails = fails.items; made = 0; faults = 0 } }) }
+    {
+        let taken = BoundedBytes::new(alloc, room)?;
+        let calls = Calls::new(fails);
+        Ok(MemSink { taken, calls })
+    }
+
+    /// The bytes that were taken.
+    pub fn bytes(&self) -> &[u8]
+        ensures { result.now ≡ self.now.bytes }
+    {
+        self.taken.bytes()
+    }
+}
+
+impl Sink for MemSink {
+    ghost taken = { λ s. Some s.bytes };
+
+    ghost faults = { λ s. s.calls.faults };
+
+    fn write(&mut self, bytes: &[u8]) -> Put
+        ensures bytes { Puts result (Some self.old.bytes) (Some self.new.bytes) bytes.now }
+        ensures count { self.old.calls.faults ≤ self.new.calls.faults }
+        ensures failed { result ≡ Failed → Rose self.old.calls.faults self.new.calls.faults }
+        ensures answer { result ≡ write_of self.old bytes.now }
+        ensures after { self.new ≡ after_mem_write self.old bytes.now result }
+    {
+        let left = self.taken.left();
+        if self.calls.fails_now() {
+            self.taken.put(&bytes[..(bytes.len() / 2).min(left)]);
+            return Put::Failed;
+        }
+        self.taken.put(&bytes[..bytes.len().min(left)]);
+        if bytes.len() <= left {
+            return Put::All;
+        }
+        self.calls.fault();
+        Put::Failed
+    }
+
+    fn flush(&mut self) -> Put
+        ensures bytes { Puts result (Some self.old.bytes) (Some self.new.bytes) [] }
+        ensures count { self.old.calls.faults ≤ self.new.calls.faults }
+        ensures failed { result ≡ Failed → Rose self.old.calls.faults self.new.calls.faults }
+        ensures answer { result ≡ flush_of self.old }
+        ensures after { self.new ≡ after_flush self.old result }
+    {
+        if self.calls.fails_now() {
+            return Put::Failed;
+        }
+        Put::All
+    }
+}
