@@ -1,0 +1,48 @@
+ghost use Rattle.std.specs.Prelude.{◌≡◌, IfOk, map, string_bytes};
+ghost use Rattle.sr_run.specs.Command.{command_of, one_of};
+
+use crate::servers::count_of_servers;
+use sr_script::address;
+use std::alloc::{AllocError, Global};
+
+/// What the words after the program's name ask for.
+#[derive(Clone, Copy, Debug, PartialEq, Eq)]
+pub enum Command {
+    /// A capture and one pool: `one VIP SERVERS`.
+    One {
+        /// The virtual address: IPv4 address and TCP port.
+        vip: (u32, u16),
+        /// How many servers share it, 1 to 255. They are numbered from 0 in the order of the word.
+        servers: u8,
+    },
+}
+
+#[tactic(auto, unfolding(crate::specs::Command::command_of))]
+/// The command that the words are; None where they are none.
+pub(crate) fn read_command(alloc: Global, words: &[String]) -> Result<Option<Command>, AllocError>
+    ensures { IfOk result (λ c. c ≡ command_of (map string_bytes words.now)) }
+{
+    match words {
+        [name, vip, servers] => {
+            if name.as_str() == "one" {
+                read_one(alloc, vip.as_str(), servers.as_str())
+            } else {
+                Ok(None)
+            }
+        }
+        _ => Ok(None),
+    }
+}
+
+// The command `one` with these words.
+fn read_one(alloc: Global, vip: &str, servers: &str) -> Result<Option<Command>, AllocError>
+    ensures { IfOk result (λ c. c ≡ one_of vip.now servers.now) }
+{
+    let Some(vip) = address(vip) else {
+        return Ok(None);
+    };
+    match count_of_servers(alloc, servers)? {
+        None => Ok(None),
+        Some(servers) => Ok(Some(Command::One { vip, servers })),
+    }
+}

@@ -1,0 +1,6 @@
+//! All that the program does, behind one call.
+#![tactic(auto)]
+
+mod command;
+mod servers;
+
