@@ -1,4 +1,4 @@
-ghost use Rattle.std.specs.Prelude.{None};
+ghost use Rattle.std.specs.Prelude.{◌≡◌, None};
 
 use crate::{FetchRefusal, Shelf};
 use std::alloc::Global;
@@ -14,7 +14,9 @@ pub struct FileShelf<'a, R> {
 }
 
 impl<'a, R: Files> FileShelf<'a, R> {
-    pub fn new(files: &'a R) -> FileShelf<'a, R> {
+    pub fn new(files: &'a R) -> FileShelf<'a, R>
+        ensures { result ≡ record { files = files.entry; faults = 0 } }
+    {
         FileShelf { files, faults: 0 }
     }
 }

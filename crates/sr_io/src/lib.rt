@@ -17,6 +17,7 @@ mod source;
 mod sure_shelf;
 mod sure_sink;
 mod sure_source;
+mod surely;
 mod write_sink;
 
 pub use file_shelf::FileShelf;
@@ -32,4 +33,8 @@ pub use std::alloc::AllocError as Memory;
 pub use sure_shelf::SureShelf;
 pub use sure_sink::SureSink;
 pub use sure_source::SureSource;
+pub use surely::{fetch_surely, flush_surely, read_surely, write_surely};
 pub use write_sink::WriteSink;
+
+#[cfg(test)]
+mod tests;

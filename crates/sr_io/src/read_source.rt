@@ -1,4 +1,4 @@
-ghost use Rattle.std.specs.Prelude.{None};
+ghost use Rattle.std.specs.Prelude.{◌≡◌, None};
 ghost use Rattle.std.specs.Io.{ReadsAtMost};
 
 use crate::{Got, Source};
@@ -15,7 +15,9 @@ pub struct ReadSource<R> {
 }
 
 impl<R: Read> ReadSource<R> {
-    pub fn new(reader: R) -> ReadSource<R> {
+    pub fn new(reader: R) -> ReadSource<R>
+        ensures { result ≡ record { reader = reader; faults = 0 } }
+    {
         ReadSource { reader, faults: 0 }
     }
 }

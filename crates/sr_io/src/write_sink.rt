@@ -1,4 +1,4 @@
-ghost use Rattle.std.specs.Prelude.{None};
+ghost use Rattle.std.specs.Prelude.{◌≡◌, None};
 
 use crate::{Put, Sink};
 use std::io::Write;
@@ -11,7 +11,9 @@ pub struct WriteSink<W> {
 }
 
 impl<W: Write> WriteSink<W> {
-    pub fn new(writer: W) -> WriteSink<W> {
+    pub fn new(writer: W) -> WriteSink<W>
+        ensures { result ≡ record { writer = writer; faults = 0 } }
+    {
         WriteSink { writer, faults: 0 }
     }
 }

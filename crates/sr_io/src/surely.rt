@@ -1,0 +1,75 @@
+//! The law of what never fails: over it no call answers a fault. It is proved from what the traits say alone, by the count of faults.
+ghost use Rattle.std.specs.Prelude.{◌≡◌, ◌≢◌, ◌<◌, length};
+ghost use Rattle.sr_io.specs.Faults.{Rose};
+ghost use Rattle.sr_io.specs.Shelf.{FetchFailed};
+
+use crate::{FetchRefusal, Got, Put, Shelf, Sink, Source, SureShelf, SureSink, SureSource};
+use std::alloc::Global;
+
+// One read of any source.
+fn read_any<S: Source>(source: &mut S, into: &mut [u8]) -> Got
+    requires { 0 < length into.old }
+    ensures { result ≡ Got.Failed → Rose (S.faults source.old) (S.faults source.new) }
+{
+    source.read(into)
+}
+
+// One fetch from any shelf.
+fn fetch_any<F: Shelf>(
+    shelf: &mut F,
+    alloc: Global,
+    name: &str,
+    limit: usize,
+) -> Result<Vec<u8>, FetchRefusal>
+    ensures { FetchFailed result → Rose (F.faults shelf.old) (F.faults shelf.new) }
+{
+    shelf.fetch(alloc, name, limit)
+}
+
+// One write to any sink.
+fn write_any<K: Sink>(sink: &mut K, bytes: &[u8]) -> Put
+    ensures { result ≡ Put.Failed → Rose (K.faults sink.old) (K.faults sink.new) }
+{
+    sink.write(bytes)
+}
+
+// One flush of any sink.
+fn flush_any<K: Sink>(sink: &mut K) -> Put
+    ensures { result ≡ Put.Failed → Rose (K.faults sink.old) (K.faults sink.new) }
+{
+    sink.flush()
+}
+
+/// A read that can't fail.
+pub fn read_surely(source: &mut SureSource, into: &mut [u8]) -> Got
+    requires { 0 < length into.old }
+    ensures { result ≢ Got.Failed }
+{
+    read_any(source, into)
+}
+
+/// A fetch that can't fail: it finds the text, or tells that it is too long, or finds no memory.
+pub fn fetch_surely(
+    shelf: &mut SureShelf,
+    alloc: Global,
+    name: &str,
+    limit: usize,
+) -> Result<Vec<u8>, FetchRefusal>
+    ensures { ¬ FetchFailed result }
+{
+    fetch_any(shelf, alloc, name, limit)
+}
+
+/// A write that can't fail.
+pub fn write_surely(sink: &mut SureSink, bytes: &[u8]) -> Put
+    ensures { result ≡ Put.All }
+{
+    write_any(sink, bytes)
+}
+
+/// A flush that can't fail.
+pub fn flush_surely(sink: &mut SureSink) -> Put
+    ensures { result ≡ Put.All }
+{
+    flush_any(sink)
+}
