@@ -1,0 +1,5 @@
+pub mod Opening
+pub mod Pools
+pub mod Same
+pub mod Server
+pub mod Ticks

@@ -2,8 +2,12 @@
 //! did; the definitions in `specs/` judge a line by the lines before it.
 #![tactic(auto)]
 
+mod choice;
 mod line;
+mod opening;
 mod verdict;
 
+pub use choice::Choice;
 pub use line::Line;
+pub use opening::Opening;
 pub use verdict::{HeldBy, Verdict};
