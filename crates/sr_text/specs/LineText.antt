@@ -1,9 +1,20 @@
 -- The text of a line.
 use Rattle.std.specs.Prelude.{ℕ, List, [], ◌∷◌, ◌++◌, codes}
+use Rattle.std.specs.List.{flat_map}
 use Rattle.std.specs.Fmt.{decimal}
+use Rattle.sr_frame.specs.declared.skip.Skip.{Skip}
+use Rattle.sr_frame.specs.declared.skip.Skip.TheVariants.{NotIpv4, NotTcp, Fragment, Short, NotVip}
 use Rattle.sr_law.specs.declared.line.Line.{Line}
 use Rattle.sr_law.specs.declared.line.Line.TheVariants.{Packet, Answer, Given, Recorded, Hold, Switched, Finished, TakenDown, Reserved, Placed, Cleared, Swept, Retired, Refused}
 use Rattle.sr_text.specs.Fields.{field, key_text, kind_text, place_text, verdict_text}
+
+-- why a record was skipped
+abbrev pub skip_word : Skip → List ℕ
+skip_word NotIpv4 = codes "notipv4"
+skip_word NotTcp = codes "nottcp"
+skip_word Fragment = codes "fragment"
+skip_word Short = codes "short"
+skip_word NotVip = codes "notvip"
 
 -- a line's end
 abbrev pub ended : List ℕ
@@ -31,3 +42,11 @@ line_text (Cleared out key place) = codes "clear " ++ field out (key_text key (3
 line_text (Swept number from to at_ms) = codes "sweep " ++ field number (field from (field to (decimal at_ms ++ ended)))
 line_text (Retired out key) = codes "retire " ++ field out (key_text key ended)
 line_text (Refused out change) = codes "refuse " ++ field out (decimal change ++ ended)
+
+-- a skipped record: its position in the capture, and why
+unfoldable pub skip_text : ℕ × Skip → List ℕ
+skip_text skip = codes "skip " ++ field skip.0 (skip_word skip.1 ++ ended)
+
+-- the whole log: the head, the skipped records, the lines
+abbrev pub log_text : List (ℕ × Skip) → List Line → List ℕ
+log_text skips lines = head_text ++ (flat_map skip_text skips ++ flat_map line_text lines)

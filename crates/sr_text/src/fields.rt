@@ -23,7 +23,7 @@ fn put_address(ip: u32, text: &mut LineText)
 
 /// Puts a key: virtual address, client address, port.
 #[tactic(auto, unfolding(crate::specs::Fields::key_text))]
-pub(crate) fn put_key(key: &Key, text: &mut LineText)
+pub fn put_key(key: &Key, text: &mut LineText)
     requires { 35 + length text.old ≤ 200 }
     ensures text { text.new ≡ key_text key.now text.old }
     ensures length { length text.new ≤ 35 + length text.old }

@@ -7,4 +7,6 @@ mod line_text;
 mod printing;
 mod put;
 
-pub use printing::{print, print_head};
+pub use fields::put_key;
+pub use line_text::LineText;
+pub use printing::{print, print_head, print_skip};

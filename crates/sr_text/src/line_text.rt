@@ -5,11 +5,11 @@ use itoa::write_digits;
 use std::marker::Model;
 
 /// The greatest number of bytes of a line, its line feed included.
-pub(crate) const MOST: usize = 200;
+const MOST: usize = 200;
 
 /// A line that is put together from its end to its front: each call puts something before what is there.
 #[derive(Drop)]
-pub(crate) struct LineText {
+pub struct LineText {
     bytes: [u8; MOST],
     at: usize,
 }

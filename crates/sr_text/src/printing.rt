@@ -2,10 +2,11 @@ ghost use Rattle.std.specs.Prelude.{◌≡◌, ◌≤◌};
 ghost use Rattle.sr_io.specs.Faults.{Rose};
 ghost use Rattle.sr_io.specs.Sink.{Puts};
 ghost use Rattle.sr_io.specs.declared.sink.Put.TheVariants.{Failed};
-ghost use Rattle.sr_text.specs.LineText.{head_text, line_text};
+ghost use Rattle.sr_text.specs.LineText.{head_text, line_text, skip_text};
 
 use crate::line_text::LineText;
-use crate::put::put_line;
+use crate::put::{put_line, put_skip};
+use sr_frame::Skip;
 use sr_io::{Put, Sink};
 use sr_law::Line;
 
@@ -26,5 +27,16 @@ pub fn print<K: Sink>(line: &Line, sink: &mut K) -> Put
 {
     let mut text = LineText::new();
     put_line(line, &mut text);
+    sink.write(text.bytes())
+}
+
+/// Prints the line of a skipped record: its position in the capture, from 1, and why it was skipped.
+pub fn print_skip<K: Sink>(number: u32, why: Skip, sink: &mut K) -> Put
+    ensures bytes { Puts result (K.taken sink.old) (K.taken sink.new) (skip_text (number, why)) }
+    ensures count { K.faults sink.old ≤ K.faults sink.new }
+    ensures failed { result ≡ Failed → Rose (K.faults sink.old) (K.faults sink.new) }
+{
+    let mut text = LineText::new();
+    put_skip(number, why, &mut text);
     sink.write(text.bytes())
 }

@@ -1,11 +1,12 @@
 ghost use Rattle.std.specs.Prelude.{◌≡◌, ◌+◌, ◌≤◌, ◌∷◌, ◌++◌, length};
 ghost use Rattle.std.specs.Fmt.{decimal};
 ghost use Rattle.sr_text.specs.Fields.{field, key_text, kind_text, place_text, verdict_text};
-ghost use Rattle.sr_text.specs.LineText.{line_text, ended};
+ghost use Rattle.sr_text.specs.LineText.{line_text, skip_text, skip_word, ended};
 
 use crate::fields::{put_key, put_kind, put_place, put_verdict};
 use crate::line_text::LineText;
 use sr_base::{Key, Kind, Place};
+use sr_frame::Skip;
 use sr_law::{Line, Verdict};
 
 // Puts a number and the space behind it.
@@ -174,4 +175,30 @@ pub(crate) fn put_line(line: &Line, text: &mut LineText)
         }
         Line::Refused { out, change } => put_numbered(b"refuse ", out, change, text),
     }
+}
+
+// Puts why a record was skipped.
+fn put_skip_word(why: Skip, text: &mut LineText)
+    requires { 10 + length text.old ≤ 200 }
+    ensures text { text.new ≡ skip_word why ++ text.old }
+    ensures length { length text.new ≤ 10 + length text.old }
+{
+    match why {
+        Skip::NotIpv4 => text.word(b"notipv4"),
+        Skip::NotTcp => text.word(b"nottcp"),
+        Skip::Fragment => text.word(b"fragment"),
+        Skip::Short => text.word(b"short"),
+        Skip::NotVip => text.word(b"notvip"),
+    }
+}
+
+/// Puts the line of a skipped record before its line feed.
+#[tactic(auto, unfolding(crate::specs::LineText::skip_text))]
+pub(crate) fn put_skip(number: u32, why: Skip, text: &mut LineText)
+    requires { text.old ≡ ended }
+    ensures { text.new ≡ skip_text (number, why) }
+{
+    put_skip_word(why, text);
+    put_middle_field(number, text);
+    text.word(b"skip ");
 }
