@@ -1,1 +1,3 @@
 mod AddressLists
+mod PrintedLines
+mod Writing

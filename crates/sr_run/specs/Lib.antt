@@ -1,2 +1,3 @@
 pub mod Command
+pub mod One
 pub mod Servers

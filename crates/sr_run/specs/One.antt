@@ -1,0 +1,31 @@
+-- What the command `one` prints: one pipe, one pool, every packet sent to the server that its key's hash picks.
+use Rattle.std.specs.Prelude.{ℕ, ◌+◌, List, [], ◌∷◌}
+use Rattle.sr_base.specs.declared.packet.Packet.{Packet}
+use Rattle.sr_frame.specs.declared.skip.Skip.{Skip}
+use Rattle.sr_hash.specs.Uses.{selected}
+use Rattle.sr_law.specs.declared.line.Line.{Line}
+use Rattle.sr_law.specs.declared.line.Line.TheVariants as lines
+use Rattle.sr_law.specs.declared.verdict.Verdict.TheVariants.{To}
+use Rattle.sr_text.specs.LineText.{log_text}
+
+-- the opening line: version 0 of the virtual address is its pool 1
+abbrev pub opening_line : Line
+opening_line = lines.Given 1 0 0 1
+
+-- the line of a packet that entered at this tick, of so many servers
+abbrev pub packet_line : ℕ → ℕ → Packet → Line
+packet_line servers tick packet =
+    lines.Packet packet.number tick (tick + 1) 0 packet.key packet.kind (To (selected servers packet.key) 0 1)
+
+-- the lines of packets, the first of which entered at this tick: two ticks for each
+abbrev pub packet_lines : ℕ → ℕ → List Packet → List Line
+packet_lines servers tick [] = []
+packet_lines servers tick (packet ∷ packets) = packet_line servers tick packet ∷ packet_lines servers (tick + 2) packets
+
+-- all the lines
+abbrev pub one_lines : ℕ → List Packet → List Line
+one_lines servers packets = opening_line ∷ packet_lines servers 2 packets
+
+-- the text of the skipped records and the lines
+unfoldable pub one_text : ℕ → List (ℕ × Skip) → List Packet → List ℕ
+one_text servers skips packets = log_text skips (one_lines servers packets)
