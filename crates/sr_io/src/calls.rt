@@ -42,7 +42,7 @@ impl Calls {
         self.made = self.made.saturating_add(1);
         let fails = self.fails.contains(&self.made);
         if fails {
-            self.faults = self.faults.saturating_add(1);
+            self.fault();
         }
         fails
     }

@@ -75,9 +75,7 @@ impl Sink for MemSink {
         ensures answer { result ≡ flush_of self.old }
         ensures after { self.new ≡ after_flush self.old result }
     {
-        if self.calls.fails_now() {
-            return Put::Failed;
-        }
-        Put::All
+        let fails = self.calls.fails_now();
+        if fails { Put::Failed } else { Put::All }
     }
 }

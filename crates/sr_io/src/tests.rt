@@ -1,6 +1,6 @@
-//! Worked rows of the sources, shelves and sinks in memory; each call that allocates succeeds once here.
+//! Worked rows of the sources, shelves and sinks; each call that allocates succeeds here once.
 use crate::*;
-use std::alloc::Global;
+use std::alloc::{AllocError, Global};
 use std::test::Fail;
 
 // Reads up to four bytes: the answer, and the buffer's first byte.
@@ -11,7 +11,7 @@ fn read_four<S: Source>(source: &mut S) -> (Got, u8) {
 }
 
 #[test]
-fn a_source_in_memory(rt: HostRuntime) -> Result<(), Fail> {
+fn mem_source(rt: HostRuntime) -> Result<(), Fail> {
     let bytes = Vec::from_slice(rt.alloc(), b"abcdefgh")?;
     let fails = Vec::from_slice(rt.alloc(), &[2, 4])?;
     let mut source = MemSource::new(bytes, 3, fails);
@@ -22,51 +22,65 @@ fn a_source_in_memory(rt: HostRuntime) -> Result<(), Fail> {
         (Got::Failed, 0),
         (Got::Bytes(2), b'g'),
         (Got::End, 0),
-        (Got::End, 0),
     ];
     for (got, first) in rows {
         assert_eq!(rt; read_four(&mut source), (got, first));
     }
-    let bytes = Vec::from_slice(rt.alloc(), b"abcdef")?;
-    let mut sure = SureSource::new(bytes, 9);
-    assert_eq!(rt; read_four(&mut sure), (Got::Bytes(4), b'a'));
-    assert_eq!(rt; read_surely(&mut sure, &mut [0u8; 1]), Got::Bytes(1));
-    assert_eq!(rt; read_four(&mut sure), (Got::Bytes(1), b'f'));
-    assert_eq!(rt; read_four(&mut sure), (Got::End, 0));
     Ok(())
 }
 
 #[test]
-fn a_sink_in_memory(rt: HostRuntime) -> Result<(), Fail> {
-    let fails = Vec::from_slice(rt.alloc(), &[2, 3])?;
-    let mut sink = MemSink::new(rt.alloc(), 9, fails)?;
-    let rows: [(&[u8], Put, &[u8]); 5] = [
-        (b"abc", Put::All, b"abc"),
-        (b"defgh", Put::Failed, b"abcde"),
-        (b"", Put::Failed, b"abcde"),
-        (b"fgh", Put::All, b"abcdefgh"),
-        (b"ijk", Put::Failed, b"abcdefghi"),
-    ];
-    for (bytes, put, taken) in rows {
-        let got = if bytes.is_empty() {
-            sink.flush()
-        } else {
-            sink.write(bytes)
-        };
-        assert_eq!(rt; got, put);
-        assert_eq!(rt; sink.bytes(), taken);
-    }
-    let mut sure = SureSink::new(rt.alloc(), 4)?;
-    for (bytes, taken) in [("ab", "ab"), ("cd", "abcd"), ("e", "abcd")] {
-        assert_eq!(rt; write_surely(&mut sure, bytes.as_bytes()), Put::All);
-        assert_eq!(rt; flush_surely(&mut sure), Put::All);
-        assert_eq!(rt; sure.bytes(), taken.as_bytes());
+fn sure_source(rt: HostRuntime) -> Result<(), Fail> {
+    let bytes = Vec::from_slice(rt.alloc(), b"abcdef")?;
+    let mut source = SureSource::new(bytes, 9);
+    assert_eq!(rt; read_four(&mut source), (Got::Bytes(4), b'a'));
+    assert_eq!(rt; read_surely(&mut source, &mut [0u8; 1]), Got::Bytes(1));
+    for (got, first) in [(Got::Bytes(1), b'f'), (Got::End, 0)] {
+        assert_eq!(rt; read_four(&mut source), (got, first));
     }
     Ok(())
 }
 
+// Writes a text, or flushes where there is none.
+fn put<K: Sink>(sink: &mut K, text: &str) -> Put {
+    if text.is_empty() {
+        return sink.flush();
+    }
+    sink.write(text.as_bytes())
+}
+
+#[test]
+fn mem_sink(rt: HostRuntime) -> Result<(), Fail> {
+    let fails = Vec::from_slice(rt.alloc(), &[2, 3])?;
+    let mut sink = MemSink::new(rt.alloc(), 9, fails)?;
+    let rows = [
+        ("abc", Put::All, "abc"),
+        ("defgh", Put::Failed, "abcde"),
+        ("", Put::Failed, "abcde"),
+        ("fgh", Put::All, "abcdefgh"),
+        ("ijk", Put::Failed, "abcdefghi"),
+        ("", Put::All, "abcdefghi"),
+    ];
+    for (text, answer, taken) in rows {
+        assert_eq!(rt; put(&mut sink, text), answer);
+        assert_eq!(rt; sink.bytes(), taken.as_bytes());
+    }
+    Ok(())
+}
+
+#[test]
+fn sure_sink(rt: HostRuntime) -> Result<(), Fail> {
+    let mut sink = SureSink::new(rt.alloc(), 4)?;
+    for (text, taken) in [("ab", "ab"), ("cd", "abcd"), ("e", "abcd")] {
+        assert_eq!(rt; write_surely(&mut sink, text.as_bytes()), Put::All);
+        assert_eq!(rt; sink.bytes(), taken.as_bytes());
+    }
+    assert_eq!(rt; flush_surely(&mut sink), Put::All);
+    Ok(())
+}
+
 // What a fetch gives, as the length of the text.
-fn fetch_length<F: Shelf>(
+fn fetch<F: Shelf>(
     shelf: &mut F,
     alloc: Global,
     name: &str,
@@ -78,18 +92,21 @@ fn fetch_length<F: Shelf>(
     }
 }
 
-#[test]
-fn a_shelf_in_memory(rt: HostRuntime) -> Result<(), Fail> {
-    let alloc = rt.alloc();
+// A shelf with three files, two of one name, whose third call fails.
+fn three_files(alloc: Global) -> Result<MemShelf, AllocError> {
     let mut files = Vec::new(alloc);
     for (name, text) in [("one", "abc"), ("two", "defgh"), ("one", "ij")] {
-        files.push((
-            String::from_str(alloc, name)?,
-            Vec::from_slice(alloc, text.as_bytes())?,
-        ))?;
+        let name = String::from_str(alloc, name)?;
+        let text = Vec::from_slice(alloc, text.as_bytes())?;
+        files.push((name, text))?;
     }
     let fails = Vec::from_slice(alloc, &[3])?;
-    let mut shelf = MemShelf::new(files, fails);
+    Ok(MemShelf::new(files, fails))
+}
+
+#[test]
+fn mem_shelf(rt: HostRuntime) -> Result<(), Fail> {
+    let mut shelf = three_files(rt.alloc())?;
     let rows = [
         ("one", 3, Ok(3)),
         ("two", 4, Err(FetchRefusal::TooLong)),
@@ -98,25 +115,39 @@ fn a_shelf_in_memory(rt: HostRuntime) -> Result<(), Fail> {
         ("three", 5, Err(FetchRefusal::Failed)),
     ];
     for (name, limit, want) in rows {
-        assert_eq!(rt; fetch_length(&mut shelf, alloc, name, limit), want);
+        assert_eq!(rt; fetch(&mut shelf, rt.alloc(), name, limit), want);
     }
-    let mut sure = SureShelf::new(Vec::from_slice(alloc, b"abc")?);
-    assert_eq!(rt; fetch_length(&mut sure, alloc, "any", 3), Ok(3));
-    assert!(rt; fetch_surely(&mut sure, alloc, "any", 2).is_err());
     Ok(())
 }
 
 #[test]
-fn over_std(rt: HostRuntime) -> Result<(), Fail> {
-    let alloc = rt.alloc();
+fn sure_shelf(rt: HostRuntime) -> Result<(), Fail> {
+    let text = Vec::from_slice(rt.alloc(), b"abc")?;
+    let mut shelf = SureShelf::new(text);
+    assert_eq!(rt; fetch(&mut shelf, rt.alloc(), "any", 3), Ok(3));
+    assert!(rt; fetch_surely(&mut shelf, rt.alloc(), "any", 2).is_err());
+    Ok(())
+}
+
+#[test]
+fn read_source(rt: HostRuntime) {
     let bytes: &[u8] = b"abcdef";
     let mut source = ReadSource::new(bytes);
     for (got, first) in [(Got::Bytes(4), b'a'), (Got::Bytes(2), b'e'), (Got::End, 0)] {
         assert_eq!(rt; read_four(&mut source), (got, first));
     }
-    let mut sink = WriteSink::new(Vec::new(alloc));
-    assert_eq!(rt; sink.write(bytes), Put::All);
-    assert_eq!(rt; sink.flush(), Put::All);
+}
+
+#[test]
+fn write_sink(rt: HostRuntime) {
+    let mut sink = WriteSink::new(Vec::new(rt.alloc()));
+    for text in ["abc", ""] {
+        assert_eq!(rt; put(&mut sink, text), Put::All);
+    }
+}
+
+#[test]
+fn file_shelf(rt: HostRuntime) {
     let mut shelf = FileShelf::new(&rt);
     let rows = [
         ("/dev/null", 0, Ok(0)),
@@ -124,7 +155,6 @@ fn over_std(rt: HostRuntime) -> Result<(), Fail> {
         ("/dev/null/none", 4, Err(FetchRefusal::Failed)),
     ];
     for (name, limit, want) in rows {
-        assert_eq!(rt; fetch_length(&mut shelf, alloc, name, limit), want);
+        assert_eq!(rt; fetch(&mut shelf, rt.alloc(), name, limit), want);
     }
-    Ok(())
 }
