@@ -35,3 +35,8 @@ is_right_choice pools before (Some choice) =
 -- a line that sends a packet, or would were the server not down, names the right server
 abbrev pub meets_server : List VipPools → List Line → Line → Bool
 meets_server pools before line = is_right_choice pools before (choice_of line)
+
+-- each of these lines names the right server by the lines before it
+abbrev pub all_meet_server : List VipPools → List Line → Bool
+all_meet_server pools [] = true
+all_meet_server pools (line ∷ before) = meets_server pools before line && all_meet_server pools before

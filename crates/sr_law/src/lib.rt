@@ -3,11 +3,19 @@
 #![tactic(auto)]
 
 mod choice;
+mod laws;
 mod line;
 mod opening;
+mod own_pools;
+mod pools;
+mod setup;
 mod verdict;
 
 pub use choice::Choice;
+pub use laws::keeps_server;
 pub use line::Line;
 pub use opening::Opening;
+pub use pools::Pools;
+pub use setup::Setup;
+pub use std::alloc::AllocError as Memory;
 pub use verdict::{HeldBy, Verdict};
