@@ -13,9 +13,11 @@ use Rattle.sr_law.specs.declared.choice.Choice.{Choice}
 use Rattle.sr_law.specs.declared.opening.Opening.{Opening}
 use Rattle.sr_law.specs.Pools.{VipPools, server_of}
 use Rattle.sr_law.specs.Ticks.{start_of, choice_of, chosen}
-use Rattle.sr_law.specs.Opening.{same_key, opened, opened_by, retires, opened_first, opening}
+use Rattle.sr_law.specs.Keys.{same_key}
+use Rattle.sr_law.specs.Opening.{opened, opened_by, retires, opened_first, opening}
 use Rattle.sr_law.specs.Same.{keeps_pool, keeps_choice, meets_same}
-use Rattle.sr_law.specs.Server.{is_number, given_pool, is_right_choice, meets_server, all_meet_server}
+use Rattle.sr_law.specs.Given.{has_pool, last_version}
+use Rattle.sr_law.specs.Server.{is_number, is_right_choice, meets_server, all_meet_server}
 
 -- what the test of two keys says
 pub same_key-true : (a b : KeyView) → same_key a b ≡ true → a ≡ b
@@ -37,7 +39,7 @@ is_number-true (Some x) n e = ap Some (eqb-true x n e)
 -- the server of a right choice
 right_choice : (pools : List VipPools) (before : List Line) (choice : Choice) → is_right_choice pools before (Some choice) ≡ true → server_of pools choice.pool choice.key ≡ Some choice.server
 right_choice pools before choice e =
-    is_number-true (server_of pools choice.pool choice.key) choice.server (and_parts (is_number (given_pool before choice.key.vip choice.version) choice.pool) _ e).1
+    is_number-true (server_of pools choice.pool choice.key) choice.server (and_parts (has_pool (last_version before choice.key.vip choice.version) choice.pool) _ e).1
 
 -- the opening that a verdict makes names the right server, where its choice is right
 opened_right : (pools : List VipPools) (before : List Line) (out : ℕ) (key : KeyView) (verdict : Verdict) (o : Opening) → is_right_choice pools before (chosen key verdict) ≡ true → opened out verdict ≡ Some o → server_of pools o.pool key ≡ Some o.server
