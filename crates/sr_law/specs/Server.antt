@@ -1,37 +1,27 @@
 -- Server: the server is the one that the connection's hash picks from the pool, and the version names that pool.
-use Rattle.std.specs.Prelude.{ℕ, Bool, true, false, ◌&&◌, ◌==◌, if◌then◌else◌, List, [], ◌∷◌, Option, Some, None}
+use Rattle.std.specs.Prelude.{ℕ, Bool, true, false, ◌&&◌, ◌==◌, List, [], ◌∷◌, Option, Some, None}
 use Rattle.sr_law.specs.declared.line.Line.{Line}
-use Rattle.sr_law.specs.declared.line.Line.TheVariants.{Given}
 use Rattle.sr_law.specs.declared.choice.Choice.{Choice}
+use Rattle.sr_law.specs.Given.{last_version, has_pool}
 use Rattle.sr_law.specs.Pools.{VipPools, server_of}
 use Rattle.sr_law.specs.Ticks.{choice_of}
-
--- the line gives this version of this virtual address a pool
-abbrev pub gives : Line → ℕ → ℕ → Bool
-gives (Given out to given pool) vip version = (to == vip) && (given == version)
-gives line vip version = false
-
--- the pool of a line that gives one, and of no other
-abbrev pub pool_given : Line → Option ℕ
-pool_given (Given out vip version pool) = Some pool
-pool_given line = None
-
--- the pool that a version of a virtual address was last given
-abbrev pub given_pool : List Line → ℕ → ℕ → Option ℕ
-given_pool [] vip version = None
-given_pool (line ∷ before) vip version = if gives line vip version then pool_given line else given_pool before vip version
 
 -- there is a number, and it is this one
 abbrev pub is_number : Option ℕ → ℕ → Bool
 is_number None n = false
 is_number (Some x) n = x == n
 
--- the choice's version names its pool, and its server is the one that the key's hash picks from that pool
+-- the choice's version was last given its pool, and its server is the one that the key's hash picks from that pool
 abbrev pub is_right_choice : List VipPools → List Line → Option Choice → Bool
 is_right_choice pools before None = true
 is_right_choice pools before (Some choice) =
-    is_number (given_pool before choice.key.vip choice.version) choice.pool && is_number (server_of pools choice.pool choice.key) choice.server
+    has_pool (last_version before choice.key.vip choice.version) choice.pool && is_number (server_of pools choice.pool choice.key) choice.server
 
 -- a line that sends a packet, or would were the server not down, names the right server
 abbrev pub meets_server : List VipPools → List Line → Line → Bool
 meets_server pools before line = is_right_choice pools before (choice_of line)
+
+-- each of these lines names the right server by the lines before it
+abbrev pub all_meet_server : List VipPools → List Line → Bool
+all_meet_server pools [] = true
+all_meet_server pools (line ∷ before) = meets_server pools before line && all_meet_server pools before

@@ -2,12 +2,38 @@
 //! did; the definitions in `specs/` judge a line by the lines before it.
 #![tactic(auto)]
 
+mod check_refusal;
 mod choice;
+mod clause;
+mod giving;
+mod givings;
+mod keys;
+mod laws;
 mod line;
+mod newer;
+mod number;
 mod opening;
+mod openings;
+mod own_pools;
+mod pools;
+mod same;
+mod server;
+mod setup;
+mod sweep;
+mod taking;
+mod ticks;
 mod verdict;
 
+pub use check_refusal::CheckRefusal;
 pub use choice::Choice;
+pub use clause::Clause;
+pub use giving::Giving;
+pub use laws::keeps_server;
 pub use line::Line;
 pub use opening::Opening;
+pub use pools::Pools;
+pub use setup::Setup;
+pub use std::alloc::AllocError as Memory;
+pub use sweep::Sweep;
+pub use taking::Taking;
 pub use verdict::{HeldBy, Verdict};

@@ -1,0 +1,15 @@
+use crate::Clause;
+
+/// Why a list isn't lawful, or wasn't judged.
+#[derive(Clone, Copy, Debug, PartialEq, Eq)]
+pub enum CheckRefusal {
+    /// The list isn't lawful.
+    Breach {
+        /// The first line that breaks a clause, from 1; for `Final` one past the last.
+        line: usize,
+        /// The first clause that it breaks.
+        clause: Clause,
+    },
+    /// There was no memory.
+    Memory,
+}
