@@ -1,3 +1,4 @@
 mod AddressLists
+mod CaptureRecords
 mod PrintedLines
 mod Writing

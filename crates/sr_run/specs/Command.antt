@@ -1,5 +1,5 @@
 -- The commands of the program.
-use Rattle.std.specs.Prelude.{ℕ, if◌then◌else◌, List, [], ◌∷◌, codes, Option, Some, None, option_map, option_and_then}
+use Rattle.std.specs.Prelude.{ℕ, ◌≤◌, if◌then◌else◌, List, [], ◌∷◌, codes, Option, Some, None, option_map, option_and_then}
 use Rattle.std.specs.Str.{bytes_eq}
 use Rattle.sr_script.specs.Address.{address_of}
 use Rattle.sr_run.specs.Servers.{count_of_servers}
@@ -18,3 +18,7 @@ command_of_three name first second = if bytes_eq name (codes "one") then one_of 
 unfoldable pub command_of : List (List ℕ) → Option Command
 command_of (name ∷ first ∷ second ∷ []) = command_of_three name first second
 command_of _ = None
+
+-- it has a server
+abbrev pub HasServers : Command → Type 0
+HasServers (One vip servers) = 1 ≤ servers

@@ -17,9 +17,9 @@ abbrev pub all_differ : List (ℕ × ℕ) → Bool
 all_differ [] = true
 all_differ (a ∷ others) = not (list_any (same_address a) others) && all_differ others
 
--- how many these are, if they are at most 255 and all different
+-- how many these are, if they are 1 to 255 and all different
 abbrev pub counted : List (ℕ × ℕ) → Option ℕ
-counted known = if nat_le (length known) 255 && all_differ known then Some (length known) else None
+counted known = if nat_le 1 (length known) && nat_le (length known) 255 && all_differ known then Some (length known) else None
 
 -- how many servers a word names: addresses joined by commas, 1 to 255, all different
 unfoldable pub count_of_servers : List ℕ → Option ℕ

@@ -1,5 +1,5 @@
-ghost use Rattle.std.specs.Prelude.{◌≡◌, IfOk, map, string_bytes};
-ghost use Rattle.sr_run.specs.Command.{command_of, one_of};
+ghost use Rattle.std.specs.Prelude.{◌≡◌, IfOk, IfSome, map, string_bytes};
+ghost use Rattle.sr_run.specs.Command.{HasServers, command_of, one_of};
 
 use crate::servers::count_of_servers;
 use sr_script::address;
@@ -20,7 +20,8 @@ pub enum Command {
 #[tactic(auto, unfolding(crate::specs::Command::command_of))]
 /// The command that the words are; None where they are none.
 pub(crate) fn read_command(alloc: Global, words: &[String]) -> Result<Option<Command>, AllocError>
-    ensures { IfOk result (λ c. c ≡ command_of (map string_bytes words.now)) }
+    ensures value { IfOk result (λ c. c ≡ command_of (map string_bytes words.now)) }
+    ensures some { IfOk result (λ c. IfSome c HasServers) }
 {
     match words {
         [name, vip, servers] => {
@@ -36,7 +37,8 @@ pub(crate) fn read_command(alloc: Global, words: &[String]) -> Result<Option<Com
 
 // The command `one` with these words.
 fn read_one(alloc: Global, vip: &str, servers: &str) -> Result<Option<Command>, AllocError>
-    ensures { IfOk result (λ c. c ≡ one_of vip.now servers.now) }
+    ensures value { IfOk result (λ c. c ≡ one_of vip.now servers.now) }
+    ensures some { IfOk result (λ c. IfSome c HasServers) }
 {
     let Some(vip) = address(vip) else {
         return Ok(None);

@@ -1,4 +1,4 @@
-ghost use Rattle.std.specs.Prelude.{◌≡◌, ◌==◌, IfOk, option_map};
+ghost use Rattle.std.specs.Prelude.{◌≡◌, ◌==◌, ◌≤◌, IfOk, IfSome, option_map};
 ghost use Rattle.std.specs.List.{list_any, slice_split};
 ghost use Rattle.sr_run.specs.Servers.{addresses_of, all_differ, counted, same_address, count_of_servers};
 
@@ -8,7 +8,8 @@ use std::alloc::{AllocError, Global};
 #[tactic(auto, unfolding(crate::specs::Servers::count_of_servers))]
 /// How many servers a word names: addresses joined by commas, 1 to 255, all different. None for every other word.
 pub(crate) fn count_of_servers(alloc: Global, word: &str) -> Result<Option<u8>, AllocError>
-    ensures { IfOk result (λ n. n ≡ count_of_servers word.now) }
+    ensures value { IfOk result (λ n. n ≡ count_of_servers word.now) }
+    ensures some { IfOk result (λ n. IfSome n (λ servers. 1 ≤ servers)) }
 {
     match addresses(alloc, word)? {
         None => Ok(None),
@@ -16,11 +17,12 @@ pub(crate) fn count_of_servers(alloc: Global, word: &str) -> Result<Option<u8>, 
     }
 }
 
-// How many addresses these are, where there are at most 255 and all are different.
+// How many addresses these are, where there are 1 to 255 and all are different.
 fn counted(known: &[(u32, u16)]) -> Option<u8>
-    ensures { result ≡ counted known.now }
+    ensures value { result ≡ counted known.now }
+    ensures some { IfSome result (λ n. 1 ≤ n) }
 {
-    if known.len() <= 255 && all_differ(known) {
+    if 1 <= known.len() && known.len() <= 255 && all_differ(known) {
         Some(known.len() as u8)
     } else {
         None

@@ -1,0 +1,47 @@
+//! Plays a row: words and an input, through devices in memory some calls of which may fail.
+use sr_io::{MemSink, MemSource, OpenGate, SureShelf};
+use sr_run::{Status, run};
+use std::alloc::{AllocError, Global};
+use std::thread::Threads;
+
+/// What a row is played with.
+#[derive(Clone, Copy)]
+pub struct Row<'a> {
+    /// The words after the program's name.
+    pub words: &'a [&'a str],
+    /// The bytes of the source.
+    pub input: &'a [u8],
+    /// How many bytes a read gives at most.
+    pub piece: usize,
+    /// The source's call that fails, from 1; 0 for none.
+    pub read_fails: u64,
+    /// The sink's call that fails, from 1; 0 for none.
+    pub write_fails: u64,
+}
+
+/// The words of the first run.
+pub const ONE: [&str; 3] = ["one", "192.0.2.1:80", "10.1.0.1:80"];
+
+/// What came of a row.
+#[derive(Drop)]
+pub struct Played {
+    /// The status.
+    pub status: Status,
+    /// What was printed.
+    pub output: Vec<u8>,
+}
+
+/// Plays the row.
+pub fn play<R: Threads + Sync>(rt: &R, alloc: Global, row: &Row) -> Result<Played, AllocError> {
+    let mut words = Vec::new(alloc);
+    for word in row.words {
+        words.push(String::from_str(alloc, word)?)?;
+    }
+    let input = Vec::from_slice(alloc, row.input)?;
+    let mut source = MemSource::new(input, row.piece.max(1), Vec::from_slice(alloc, &[row.read_fails])?);
+    let mut shelf = SureShelf::new(Vec::new(alloc));
+    let mut sink = MemSink::new(alloc, 65_536, Vec::from_slice(alloc, &[row.write_fails])?)?;
+    let status = run(rt, alloc, &words, &mut source, &mut shelf, &mut sink, &OpenGate);
+    let output = Vec::from_slice(alloc, sink.bytes())?;
+    Ok(Played { status, output })
+}

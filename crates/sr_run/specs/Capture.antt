@@ -1,0 +1,125 @@
+-- What a capture says: its packets to a virtual address, its skipped records, and why it ended early, if it did.
+use Rattle.std.specs.Prelude.{◌≡◌, ℕ, zero, suc, ◌+◌, ◌≤◌, List, [], ◌∷◌, ◌++◌, length, drop, Option, Some, None, Result, Ok, Err}
+use Rattle.sr_base.specs.declared.packet.Packet.{Packet}
+use Rattle.sr_frame.specs.declared.seen.Seen.{Seen}
+use Rattle.sr_frame.specs.declared.seen.Seen.TheVariants as seen_as
+use Rattle.sr_frame.specs.declared.skip.Skip.{Skip}
+use Rattle.sr_frame.specs.Frame.{seen}
+use Rattle.sr_pcap.specs.declared.begin_refusal.BeginRefusal.{BeginRefusal}
+use Rattle.sr_pcap.specs.declared.begin_refusal.BeginRefusal.TheVariants as begin
+use Rattle.sr_pcap.specs.declared.format.Format.{Format}
+use Rattle.sr_pcap.specs.declared.next.Next.{Next}
+use Rattle.sr_pcap.specs.declared.next.Next.TheVariants.{Whole, End, Truncated, ReadFault, TooLong}
+use Rattle.sr_pcap.specs.Format.{header_of}
+use Rattle.sr_pcap.specs.Next.{next_at, frame_at, rest_at}
+use Rattle.sr_run.specs.declared.status.CaptureRefusal.{CaptureRefusal}
+use Rattle.sr_run.specs.declared.status.CaptureRefusal.TheVariants as refusal
+use Rattle.sr_run.specs.declared.capture.Reading.{Reading}
+use Rattle.sr_run.specs.declared.capture.Reading.TheVariants as reading
+
+-- the captured bytes of each whole record, and the refusal of the next one, if it is refused
+pub record Records : Type 0 where
+  pub frames : List (List ℕ)
+  pub ending : Option CaptureRefusal
+
+-- no record more
+abbrev pub ended : Option CaptureRefusal → Records
+ended ending = record { frames = []; ending = ending }
+
+-- one record, and then those
+abbrev pub with_frame : List ℕ → Records → Records
+with_frame frame rest = record { frames = frame ∷ rest.frames; ending = rest.ending }
+
+-- the refusal of what comes after the last record, where no further one may come
+abbrev pub ending_of : Next → Option CaptureRefusal
+ending_of (Whole ms offset) = Some (refusal.TooMany offset)
+ending_of End = None
+ending_of (Truncated offset) = Some (refusal.Cut offset)
+ending_of ReadFault = None
+ending_of (TooLong offset size) = Some (refusal.TooLong offset)
+
+-- a whole record and those behind it, or what ends the capture
+abbrev pub records_after : Next → List ℕ → Records → Records
+records_after (Whole ms offset) frame behind = with_frame frame behind
+records_after End frame behind = ended (ending_of End)
+records_after (Truncated offset) frame behind = ended (ending_of (Truncated offset))
+records_after ReadFault frame behind = ended (ending_of ReadFault)
+records_after (TooLong offset size) frame behind = ended (ending_of (TooLong offset size))
+
+-- the records in these bytes, the first of which stands at this offset, where so many whole ones may come
+unfoldable pub records_from : ℕ → Format → ℕ → List ℕ → Records
+records_from zero format offset bytes = ended (ending_of (next_at format offset bytes))
+records_from (suc room) format offset bytes =
+    records_after (next_at format offset bytes) (frame_at format bytes) (records_from room format (offset + (16 + length (frame_at format bytes))) (rest_at format bytes))
+
+-- the packet in the record of this position, if it has one
+abbrev pub packet_of : ℕ → Seen → List Packet
+packet_of number (seen_as.Packet key kind) = record { number = number; key = key; kind = kind } ∷ []
+packet_of number (seen_as.Skipped why) = []
+
+-- the record of this position, if it is skipped, and why
+abbrev pub skip_of : ℕ → Seen → List (ℕ × Skip)
+skip_of number (seen_as.Packet key kind) = []
+skip_of number (seen_as.Skipped why) = (number, why) ∷ []
+
+-- the packets in these frames, the first of which has this position
+abbrev pub packets_from : ℕ → (ℕ × ℕ) → ℕ → List (List ℕ) → List Packet
+packets_from link vip number [] = []
+packets_from link vip number (frame ∷ frames) = packet_of number (seen link frame (vip ∷ [])) ++ packets_from link vip (number + 1) frames
+
+-- the skipped ones of these frames
+abbrev pub skips_from : ℕ → (ℕ × ℕ) → ℕ → List (List ℕ) → List (ℕ × Skip)
+skips_from link vip number [] = []
+skips_from link vip number (frame ∷ frames) = skip_of number (seen link frame (vip ∷ [])) ++ skips_from link vip (number + 1) frames
+
+-- the refusal of a header; a definition answers neither a fault nor want of memory
+abbrev pub header_refusal : BeginRefusal → CaptureRefusal
+header_refusal (begin.Truncated offset) = refusal.Cut offset
+header_refusal begin.Magic = refusal.Magic
+header_refusal begin.Major = refusal.Major
+header_refusal begin.LinkType = refusal.LinkType
+header_refusal begin.ReadFault = refusal.Magic
+header_refusal begin.Memory = refusal.Magic
+
+-- What was kept is what the records behind the header say; where no record was refused, the source has no byte left.
+pub record Keeps (format : Format) (vip : ℕ × ℕ) (xs : List ℕ) (left : Option (List ℕ)) (skips : List (ℕ × Skip)) (packets : List Packet) (ending : Option CaptureRefusal) : Type 0 where
+  pub skips_are : skips ≡ skips_from format.link vip 1 (records_from 4194304 format 24 xs).frames
+  pub packets_are : packets ≡ packets_from format.link vip 1 (records_from 4194304 format 24 xs).frames
+  pub ending_is : ending ≡ (records_from 4194304 format 24 xs).ending
+  pub all : ending ≡ None → left ≡ Some []
+
+-- what reading the records behind a header of this format gives
+abbrev pub ReadsOn : Reading → Format → (ℕ × ℕ) → List ℕ → Option (List ℕ) → Type 0
+ReadsOn (reading.Read captured) format vip xs left = Keeps format vip xs left captured.skips.items captured.packets.items captured.ending
+ReadsOn (reading.Refused why) format vip xs left = ⊥
+ReadsOn reading.ReadFault format vip xs left = Unit {0}
+ReadsOn reading.Memory format vip xs left = Unit {0}
+
+-- what reading a capture gives
+abbrev pub Reads : Reading → (ℕ × ℕ) → List ℕ → Option (List ℕ) → Type 0
+Reads (reading.Read captured) vip xs left =
+    (format : Format) × (header_of xs ≡ Ok format) × Keeps format vip (drop 24 xs) left captured.skips.items captured.packets.items captured.ending
+Reads (reading.Refused why) vip xs left = (refused : BeginRefusal) × (header_of xs ≡ Err refused) × (why ≡ header_refusal refused)
+Reads reading.ReadFault vip xs left = Unit {0}
+Reads reading.Memory vip xs left = Unit {0}
+
+-- no more packets than records that may come
+abbrev pub IsFew : Reading → Type 0
+IsFew (reading.Read captured) = length captured.packets.items ≤ 4194304
+IsFew (reading.Refused why) = Unit {0}
+IsFew reading.ReadFault = Unit {0}
+IsFew reading.Memory = Unit {0}
+
+-- the source failed
+abbrev pub IsReadFault : Reading → Type 0
+IsReadFault (reading.Read captured) = ⊥
+IsReadFault (reading.Refused why) = ⊥
+IsReadFault reading.ReadFault = Unit {0}
+IsReadFault reading.Memory = ⊥
+
+-- these were kept, and the capture ended by what came then
+abbrev pub EndsWith : Reading → Next → List (ℕ × Skip) → List Packet → Type 0
+EndsWith (reading.Read captured) next skips packets = (captured.skips.items ≡ skips) × (captured.packets.items ≡ packets) × (captured.ending ≡ ending_of next) × (next ≡ ReadFault → ⊥)
+EndsWith (reading.Refused why) next skips packets = ⊥
+EndsWith reading.ReadFault next skips packets = next ≡ ReadFault
+EndsWith reading.Memory next skips packets = ⊥

@@ -1,0 +1,68 @@
+-- What a run of the program does to what it reads and prints.
+use Rattle.std.specs.Prelude.{◌≡◌, ℕ, List, [], drop, Option, Some, None, Result, Ok, Err}
+use Rattle.sr_io.specs.Sink.{Adds, AddsFront}
+use Rattle.sr_io.specs.declared.sink.Put.{Put}
+use Rattle.sr_io.specs.declared.sink.Put.TheVariants as put
+use Rattle.sr_pcap.specs.declared.begin_refusal.BeginRefusal.{BeginRefusal}
+use Rattle.sr_pcap.specs.declared.format.Format.{Format}
+use Rattle.sr_pcap.specs.Format.{header_of}
+use Rattle.sr_run.specs.declared.command.Command.{Command}
+use Rattle.sr_run.specs.declared.command.Command.TheVariants.{One}
+use Rattle.sr_run.specs.declared.status.CaptureRefusal.{CaptureRefusal}
+use Rattle.sr_run.specs.declared.status.Status.{Status}
+use Rattle.sr_run.specs.declared.status.Status.TheVariants.{Done, Usage, Capture, ReadFault, WriteFault, Memory}
+use Rattle.sr_run.specs.Capture.{records_from, packets_from, skips_from, header_refusal}
+use Rattle.sr_run.specs.One.{one_text}
+
+-- the refusal of a capture with this header, if it is refused
+abbrev pub refusal_in : Result Format BeginRefusal → List ℕ → Option CaptureRefusal
+refusal_in (Ok format) bytes = (records_from 4194304 format 24 bytes).ending
+refusal_in (Err why) bytes = Some (header_refusal why)
+
+-- what a command prints of a capture with this header
+abbrev pub printed_in : Result Format BeginRefusal → ℕ × ℕ → ℕ → List ℕ → List ℕ
+printed_in (Ok format) vip servers bytes =
+    let frames = (records_from 4194304 format 24 bytes).frames in
+    one_text servers (skips_from format.link vip 1 frames) (packets_from format.link vip 1 frames)
+printed_in (Err why) vip servers bytes = []
+
+-- why a command refuses these bytes, if it does
+unfoldable pub refusal_of : Command → List ℕ → Option CaptureRefusal
+refusal_of (One vip servers) bytes = refusal_in (header_of bytes) (drop 24 bytes)
+
+-- what a command prints of these bytes: of a capture that is refused in a record the whole records before it
+unfoldable pub printed : Command → List ℕ → List ℕ
+printed (One vip servers) bytes = printed_in (header_of bytes) vip servers (drop 24 bytes)
+
+-- What each status says of a command over these bytes: what is left of them, and what the sink took.
+abbrev pub Answers : Status → Command → List ℕ → Option (List ℕ) → Option (List ℕ) → Option (List ℕ) → Type 0
+Answers Done c bytes left old new = (refusal_of c bytes ≡ None) × (left ≡ Some []) × Adds old new (printed c bytes)
+Answers Usage c bytes left old new = ⊥
+Answers (Capture why) c bytes left old new = (refusal_of c bytes ≡ Some why) × Adds old new (printed c bytes)
+Answers ReadFault c bytes left old new = Adds old new []
+Answers WriteFault c bytes left old new = AddsFront old new (printed c bytes)
+Answers Memory c bytes left old new = Adds old new []
+
+-- after these statuses nothing was written
+abbrev pub WritesNothing : Status → Option (List ℕ) → Option (List ℕ) → Type 0
+WritesNothing Done old new = Unit {0}
+WritesNothing Usage old new = Adds old new []
+WritesNothing (Capture why) old new = Unit {0}
+WritesNothing ReadFault old new = Adds old new []
+WritesNothing WriteFault old new = Unit {0}
+WritesNothing Memory old new = Adds old new []
+
+-- the status after printing, where the capture ended so
+abbrev pub finished : Put → Option CaptureRefusal → Status
+finished put.Failed ending = WriteFault
+finished put.All None = Done
+finished put.All (Some why) = Capture why
+
+-- The text was printed where the capture ended so; or a prefix of it.
+abbrev pub EndsPrinting : Status → Option CaptureRefusal → List ℕ → Option (List ℕ) → Option (List ℕ) → Type 0
+EndsPrinting Done ending text old new = (ending ≡ None) × Adds old new text
+EndsPrinting Usage ending text old new = ⊥
+EndsPrinting (Capture why) ending text old new = (ending ≡ Some why) × Adds old new text
+EndsPrinting ReadFault ending text old new = ⊥
+EndsPrinting WriteFault ending text old new = AddsFront old new text
+EndsPrinting Memory ending text old new = ⊥

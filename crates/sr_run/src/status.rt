@@ -1,0 +1,124 @@
+ghost use Rattle.std.specs.Prelude.{◌≡◌, ◌+◌, ◌≤◌, ◌++◌, length};
+ghost use Rattle.std.specs.Fmt.{decimal};
+ghost use Rattle.sr_io.specs.Faults.{Rose};
+ghost use Rattle.sr_io.specs.Sink.{Puts};
+ghost use Rattle.sr_io.specs.declared.sink.Put.TheVariants as put;
+ghost use Rattle.sr_run.specs.Status.{code_of, status_text, capture_words};
+
+use sr_io::{Put, Sink};
+use sr_text::LineText;
+
+/// Why a capture was refused.
+#[derive(Clone, Copy, Debug, PartialEq, Eq)]
+pub enum CaptureRefusal {
+    /// The input ends inside the header or the record that begins at this offset.
+    Cut {
+        /// In bytes from the capture's begin.
+        offset: u64,
+    },
+    /// The record at this offset has more than 262,144 captured bytes.
+    TooLong {
+        /// In bytes from the capture's begin.
+        offset: u64,
+    },
+    /// A record begins at this offset after 4,194,304 whole ones.
+    TooMany {
+        /// In bytes from the capture's begin.
+        offset: u64,
+    },
+    /// The magic isn't that of a classic capture (pcap 2.4).
+    Magic,
+    /// The major version isn't 2.
+    Major,
+    /// The link type is neither Ethernet nor raw IP.
+    LinkType,
+}
+
+/// How a run ended.
+#[derive(Clone, Copy, Debug, PartialEq, Eq)]
+pub enum Status {
+    /// All is done.
+    Done,
+    /// The words are no command.
+    Usage,
+    /// The capture was refused; what was read before a refused record was run and printed.
+    Capture(CaptureRefusal),
+    /// The source or the shelf failed.
+    ReadFault,
+    /// The sink failed, after it took a prefix of the text.
+    WriteFault,
+    /// No memory was found; nothing was printed.
+    Memory,
+}
+
+impl Status {
+    /// The exit code of the program.
+    pub fn code(&self) -> u8
+        ensures { result ≡ code_of self.now }
+    {
+        match *self {
+            Status::Done => 0,
+            Status::Usage => 1,
+            Status::Capture(_) => 3,
+            Status::ReadFault => 4,
+            Status::WriteFault => 5,
+            Status::Memory => 6,
+        }
+    }
+
+    /// Appends the line that says how the run ended; nothing for `Done`.
+    #[tactic(auto, unfolding(crate::specs::Status::status_text))]
+    pub fn text<K: Sink>(&self, sink: &mut K) -> Put
+        ensures bytes { Puts result (K.taken sink.old) (K.taken sink.new) (status_text self.now) }
+        ensures count { K.faults sink.old ≤ K.faults sink.new }
+        ensures failed { result ≡ put.Failed → Rose (K.faults sink.old) (K.faults sink.new) }
+    {
+        match *self {
+            Status::Done => sink.write(b""),
+            Status::Usage => sink.write(b"silkroad: usage: one VIP SERVERS, replay SCRIPT, audit SCRIPT, make N PACKETS, demo N, steps SCRIPT SEED\n"),
+            Status::Capture(why) => capture_text(why, sink),
+            Status::ReadFault => sink.write(b"silkroad: read fault\n"),
+            Status::WriteFault => sink.write(b"silkroad: write fault\n"),
+            Status::Memory => sink.write(b"silkroad: no memory\n"),
+        }
+    }
+}
+
+// Appends the line that says why a capture was refused.
+#[tactic(auto, unfolding(crate::specs::Status::status_text))]
+fn capture_text<K: Sink>(why: CaptureRefusal, sink: &mut K) -> Put
+    ensures bytes { Puts result (K.taken sink.old) (K.taken sink.new) (status_text (Status.Capture why)) }
+    ensures count { K.faults sink.old ≤ K.faults sink.new }
+    ensures failed { result ≡ put.Failed → Rose (K.faults sink.old) (K.faults sink.new) }
+{
+    let mut text = LineText::new();
+    put_capture(why, &mut text);
+    text.word(b"silkroad: capture: ");
+    sink.write(text.bytes())
+}
+
+// Puts why a capture was refused.
+fn put_capture(why: CaptureRefusal, text: &mut LineText)
+    requires { length text.old ≤ 1 }
+    ensures text { text.new ≡ capture_words why text.old }
+    ensures length { length text.new ≤ 40 }
+{
+    match why {
+        CaptureRefusal::Cut { offset } => put_offset(b"cut at ", offset, text),
+        CaptureRefusal::TooLong { offset } => put_offset(b"too long at ", offset, text),
+        CaptureRefusal::TooMany { offset } => put_offset(b"too many at ", offset, text),
+        CaptureRefusal::Magic => text.word(b"magic"),
+        CaptureRefusal::Major => text.word(b"major"),
+        CaptureRefusal::LinkType => text.word(b"link type"),
+    }
+}
+
+// Puts words and an offset behind them.
+fn put_offset(words: &[u8], offset: u64, text: &mut LineText)
+    requires { (length text.old ≤ 1) × (length words.now ≤ 12) }
+    ensures text { text.new ≡ words.now ++ (decimal offset ++ text.old) }
+    ensures length { length text.new ≤ 40 }
+{
+    text.number(offset);
+    text.word(words);
+}
