@@ -1,0 +1,4 @@
+pub mod Endian
+pub mod Filled
+pub mod Format
+pub mod Resolution
