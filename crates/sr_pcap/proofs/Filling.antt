@@ -25,14 +25,14 @@ within_piece at n k into piece within fits =
 pub holds_more : (at n k : ℕ) (xs into piece : List ℕ) (left now : Option (List ℕ)) → at ≤ length into → n ≤ length piece → Holds at xs into left
     → n ≤ length (drop at xs) → take n piece ≡ take n (drop at xs) → now ≡ Some (drop n (drop at xs)) → Holds (at + n) xs (put_mid at k into piece) now
 holds_more at n k xs into piece left now within fits held more same rest = record {
-      within = let w = held.within in omega (arith, length-drop at xs);
-      front =
-        take_with_piece at n k into piece within fits
-        ∙ ap (λ (ys : List ℕ). ys ++ take n piece) held.front
-        ∙ ap (λ (ys : List ℕ). take at xs ++ ys) same
-        ∙ sym (take-add at n xs);
-      rest = rest ∙ ap (λ (ys : List ℕ). Some ys) (drop-drop n at xs);
-    }
+  within = let w = held.within in omega (arith, length-drop at xs);
+  front =
+      take_with_piece at n k into piece within fits
+      ∙ ap (λ (ys : List ℕ). ys ++ take n piece) held.front
+      ∙ ap (λ (ys : List ℕ). take at xs ++ ys) same
+      ∙ sym (take-add at n xs);
+  rest = rest ∙ ap (λ (ys : List ℕ). Some ys) (drop-drop n at xs);
+}
 
 -- no byte is left where all that there were are there
 pub holds_all : (at : ℕ) (xs into : List ℕ) (left : Option (List ℕ)) → Holds at xs into left → drop at xs ≡ [] → length xs ≡ at

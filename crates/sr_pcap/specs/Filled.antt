@@ -9,11 +9,11 @@ pub record Holds (at : ℕ) (xs buffer : List ℕ) (left : Option (List ℕ)) : 
   pub front : take at buffer ≡ take at xs
   pub rest : left ≡ Some (drop at xs)
 
--- The first of these bytes fill the buffer, and the others are left; or there are too few of them, and none is left.
-abbrev pub Fills : Filled → List ℕ → List ℕ → Option (List ℕ) → Type 0
-Fills Full xs buffer left = (length buffer ≤ length xs) × (buffer ≡ take (length buffer) xs) × (left ≡ Some (drop (length buffer) xs))
-Fills (Ended n) xs buffer left = (length xs ≡ n) × (left ≡ Some [])
-Fills Failed xs buffer left = Unit {0}
+-- The first `size` of these bytes fill the front of the buffer, and the others are left; or there are too few of them, and none is left.
+abbrev pub Fills : Filled → ℕ → List ℕ → List ℕ → Option (List ℕ) → Type 0
+Fills Full size xs front left = (size ≤ length xs) × (front ≡ take size xs) × (left ≡ Some (drop size xs))
+Fills (Ended n) size xs front left = (length xs ≡ n) × (left ≡ Some [])
+Fills Failed size xs front left = Unit {0}
 
 -- an input that ended left a part of the buffer
 abbrev pub IsCut : Filled → ℕ → Type 0

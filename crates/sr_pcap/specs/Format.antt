@@ -1,8 +1,8 @@
 -- The headers of a classic capture, by their fields: the capture's (magic, major, minor, zone, significant figures, snap length, link
 -- type) and a record's (seconds, fraction, captured length, original length).
-use Rattle.std.specs.Prelude.{ℕ, ◌+◌, ◌*◌, ◌/◌, ◌%◌, ◌^◌, ◌==◌, ◌||◌, not, nat_lt, if◌then◌else◌, List, length, take, drop, Option, Some, None, Result, Ok, Err}
+use Rattle.std.specs.Prelude.{◌≡◌, ◌⊎◌, ℕ, ◌+◌, ◌*◌, ◌/◌, ◌%◌, ◌^◌, ◌==◌, ◌||◌, not, nat_lt, if◌then◌else◌, List, length, take, drop, Option, Some, None, Result, Ok, Err}
 use Rattle.sr_pcap.specs.declared.begin_refusal.BeginRefusal.{BeginRefusal}
-use Rattle.sr_pcap.specs.declared.begin_refusal.BeginRefusal.TheVariants.{Truncated, Magic, Major, LinkType}
+use Rattle.sr_pcap.specs.declared.begin_refusal.BeginRefusal.TheVariants.{Truncated, ReadFault, Magic, Major, LinkType, Memory}
 use Rattle.sr_pcap.specs.declared.endian.Endian.{Endian}
 use Rattle.sr_pcap.specs.declared.endian.Endian.TheVariants.{Big, Little}
 use Rattle.sr_pcap.specs.declared.format.Format.{Format}
@@ -42,6 +42,16 @@ format_with (Some magic) header = format_in magic.0 magic.1 header
 -- the format that a header of 24 bytes spells
 unfoldable pub format_of : List ℕ → Result Format BeginRefusal
 format_of header = format_with (magic_of header) header
+
+-- what judging a whole header comes to
+abbrev pub IsJudged : Result Format BeginRefusal → Type 0
+IsJudged (Ok format) = (format.link ≡ 1) ⊎ (format.link ≡ 101)
+IsJudged (Err (Truncated offset)) = ⊥
+IsJudged (Err ReadFault) = ⊥
+IsJudged (Err Magic) = Unit {0}
+IsJudged (Err Major) = Unit {0}
+IsJudged (Err LinkType) = Unit {0}
+IsJudged (Err Memory) = ⊥
 
 -- the format of a capture, which begins with a header
 unfoldable pub header_of : List ℕ → Result Format BeginRefusal

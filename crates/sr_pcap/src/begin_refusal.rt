@@ -1,3 +1,8 @@
+ghost use Rattle.std.specs.Prelude.{◌≡◌};
+ghost use Rattle.sr_pcap.specs.declared.begin_refusal.BeginRefusal.TheVariants.{Memory};
+
+use std::alloc::AllocError;
+
 /// Why a capture can't be read from its header on.
 #[derive(Clone, Copy, Debug, PartialEq, Eq)]
 pub enum BeginRefusal {
@@ -16,4 +21,12 @@ pub enum BeginRefusal {
     LinkType,
     /// No memory was found.
     Memory,
+}
+
+impl From<AllocError> for BeginRefusal {
+    ghost from_gives = { λ _ e. e ≡ Memory };
+
+    fn from(_: AllocError) -> BeginRefusal {
+        BeginRefusal::Memory
+    }
 }

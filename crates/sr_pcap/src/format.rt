@@ -1,10 +1,11 @@
-ghost use Rattle.std.specs.Prelude.{◌≡◌, ◌≤◌, ◌⊎◌, length, IfOk};
-ghost use Rattle.sr_pcap.specs.Format.{magic_of, format_of, format_in, milliseconds, captured_length};
+ghost use Rattle.std.specs.Prelude.{◌≡◌, ◌≤◌, length};
+ghost use Rattle.sr_pcap.specs.Format.{IsJudged, magic_of, format_of, format_in, milliseconds, captured_length};
 
 use crate::{BeginRefusal, Endian, Resolution};
 
 // The link types that are read.
 const ETHERNET: u32 = 1;
+
 const RAW_IP: u32 = 101;
 
 /// What a capture's header says of its records.
@@ -24,7 +25,7 @@ impl Format {
     pub fn of_header(header: &[u8]) -> Result<Format, BeginRefusal>
         requires { 24 ≤ length header.now }
         ensures format { result ≡ format_of header.now }
-        ensures link { IfOk result (λ f. (f.link ≡ 1) ⊎ (f.link ≡ 101)) }
+        ensures judged { IsJudged result }
     {
         match magic(header) {
             Some((endian, resolution)) => Format::of_version(endian, resolution, header),
@@ -34,10 +35,14 @@ impl Format {
 
     // The format of a header with this magic.
     #[tactic(auto, unfolding(crate::specs::Format::format_in))]
-    fn of_version(endian: Endian, resolution: Resolution, header: &[u8]) -> Result<Format, BeginRefusal>
+    fn of_version(
+        endian: Endian,
+        resolution: Resolution,
+        header: &[u8],
+    ) -> Result<Format, BeginRefusal>
         requires { 24 ≤ length header.now }
         ensures format { result ≡ format_in endian resolution header.now }
-        ensures link { IfOk result (λ f. (f.link ≡ 1) ⊎ (f.link ≡ 101)) }
+        ensures judged { IsJudged result }
     {
         if endian.read_u16(&header[4..]) != 2 {
             return Err(BeginRefusal::Major);

@@ -10,10 +10,13 @@ mod endian;
 mod filled;
 mod format;
 mod next;
+mod reader;
+mod record;
 mod resolution;
 
 pub use begin_refusal::BeginRefusal;
 pub use endian::Endian;
 pub use format::Format;
 pub use next::Next;
+pub use reader::Reader;
 pub use resolution::Resolution;
