@@ -4,4 +4,5 @@ pub mod Format
 pub mod Next
 pub mod Reader
 pub mod Record
+pub mod Records
 pub mod Resolution

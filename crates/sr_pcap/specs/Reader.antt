@@ -38,10 +38,11 @@ Steps ReadFault old new = new ≡ ended_by old ReadFault
 Steps (TooLong offset size) old new = (offset ≡ old.offset) × (262144 < size) × (new ≡ ended_by old (TooLong offset size))
 
 -- What comes next in these bytes was answered, where the first of them stands at this offset. Of a whole record the captured bytes are
--- there, and the bytes after it are left.
+-- there, the bytes after it are left, and nothing but its header and they was taken.
 abbrev pub Answers : Next → Format → ℕ → List ℕ → List ℕ → Option (List ℕ) → Type 0
 Answers (Whole ms at) format offset xs bytes left =
     (next_at format offset xs ≡ Whole ms at) × (bytes ≡ frame_at format xs) × (left ≡ Some (rest_at format xs))
+    × (16 + length bytes + length (rest_at format xs) ≡ length xs)
 Answers End format offset xs bytes left = (next_at format offset xs ≡ End) × (left ≡ Some [])
 Answers (Truncated at) format offset xs bytes left = (next_at format offset xs ≡ Truncated at) × (left ≡ Some [])
 Answers ReadFault format offset xs bytes left = Unit {0}
@@ -55,4 +56,4 @@ Begins format (Err begin.ReadFault) xs left = Unit {0}
 Begins format (Err begin.Magic) xs left = (header_of xs ≡ Err begin.Magic) × (left ≡ Some (drop 24 xs))
 Begins format (Err begin.Major) xs left = (header_of xs ≡ Err begin.Major) × (left ≡ Some (drop 24 xs))
 Begins format (Err begin.LinkType) xs left = (header_of xs ≡ Err begin.LinkType) × (left ≡ Some (drop 24 xs))
-Begins format (Err begin.Memory) xs left = left ≡ Some xs
+Begins format (Err begin.Memory) xs left = Unit {0}

@@ -1,4 +1,4 @@
-ghost use Rattle.std.specs.Prelude.{◌≡◌, ℕ, ◌<◌, ◌≤◌, ◌⊎◌, List, [], length, take, drop, Some, None, Err, IfOk};
+ghost use Rattle.std.specs.Prelude.{◌≡◌, ◌≢◌, ℕ, ◌<◌, ◌≤◌, ◌⊎◌, List, [], length, take, drop, Some, None, Err, IfOk};
 ghost use Rattle.sr_io.specs.Faults.{Rose};
 ghost use Rattle.sr_pcap.specs.Reader.{Steps, Answers, Begins, ended_by};
 ghost use Rattle.sr_pcap.specs.declared.begin_refusal.BeginRefusal.TheVariants as begin;
@@ -49,6 +49,7 @@ impl Reader {
         ensures fresh { IfOk result (λ r. (r.offset ≡ 24) × (r.bytes ≡ []) × (r.ended ≡ None)) }
         ensures count { S.faults source.old ≤ S.faults source.new }
         ensures read_fault { result ≡ Err begin.ReadFault → Rose (S.faults source.old) (S.faults source.new) }
+        ensures memory { result ≡ Err begin.Memory → source.new ≡ source.old }
     {
         let last = Record::new(alloc)?;
         let spare = Record::new(alloc)?;
@@ -150,6 +151,7 @@ fn read_header<S: Source>(source: &mut S) -> Result<Format, BeginRefusal>
     ensures link { IfOk result (λ f. (f.link ≡ 1) ⊎ (f.link ≡ 101)) }
     ensures count { S.faults source.old ≤ S.faults source.new }
     ensures read_fault { result ≡ Err begin.ReadFault → Rose (S.faults source.old) (S.faults source.new) }
+    ensures no_memory { result ≢ Err begin.Memory }
 {
     let mut header = [0; CAPTURE_HEADER];
     match fill(source, &mut header, CAPTURE_HEADER) {

@@ -19,3 +19,6 @@ returns-in-Ended-clause-header g c = λ xs h.
     let read = c.in-Ended.ensures.bytes xs h in
     let few = c.in-Ended.ensures.cut in
     (header_cut xs (omega arith), read.1)
+
+pub returns-in-Full-clause-no_memory : goal.returns-in-Full-clause-no_memory
+returns-in-Full-clause-no_memory g c = λ e. let none : ⊥ = subst IsJudged e c.of_header.ensures.judged in absurd none
