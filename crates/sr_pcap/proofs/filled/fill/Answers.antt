@@ -1,0 +1,21 @@
+use Rattle.std.proofs.Common.{◌≡◌, ℕ, ◌-◌, ◌+◌, ◌≤◌, List, length, drop, Some, arith}
+use Rattle.sr_pcap.proofs.Filling.{holds_more, holds_all}
+use Rattle.sr_pcap.proofs.filled.fill.Goals as goal
+
+pub loop-at-preserved : goal.loop-at-preserved
+loop-at-preserved g c =
+    let within : c.loop-at.at ≤ length c.loop-at.into = omega arith in
+    record {
+      within = let took = c.in-Bytes.ensures.within in let same = c.read.auto.into in omega arith;
+      holds = λ xs h.
+        let held = c.loop-at.invariant.holds xs h in
+        let took = c.in-Bytes.ensures.bytes (drop c.loop-at.at xs) held.rest in
+        holds_more c.loop-at.at c.in-Bytes.n (c.args.size - c.loop-at.at) xs c.loop-at.into c.read.new.into _ _ within c.in-Bytes.ensures.within.1 held took.0 took.1 took.2;
+      count = omega arith;
+    }
+
+pub returns-in-End-clause-bytes : goal.returns-in-End-clause-bytes
+returns-in-End-clause-bytes g c = λ xs h.
+    let held = c.loop-at.invariant.holds xs h in
+    let took = c.in-End.ensures.bytes (drop c.loop-at.at xs) held.rest in
+    (holds_all c.loop-at.at xs c.loop-at.into _ held took.0, took.1)

@@ -1,0 +1,10 @@
+-- The captured bytes of a record.
+use Rattle.std.specs.Prelude.{◌≡◌, ℕ, List, length}
+use Rattle.sr_pcap.specs.declared.filled.Filled.{Filled}
+use Rattle.sr_pcap.specs.declared.filled.Filled.TheVariants.{Full, Ended, Failed}
+
+-- a whole record has this many bytes
+abbrev pub HasSize : Filled → ℕ → List ℕ → Type 0
+HasSize Full size record_bytes = length record_bytes ≡ size
+HasSize (Ended n) size record_bytes = Unit {0}
+HasSize Failed size record_bytes = Unit {0}
