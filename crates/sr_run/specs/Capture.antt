@@ -1,5 +1,5 @@
 -- What a capture says: its packets to a virtual address, its skipped records, and why it ended early, if it did.
-use Rattle.std.specs.Prelude.{◌≡◌, ℕ, zero, suc, ◌+◌, ◌≤◌, List, [], ◌∷◌, ◌++◌, length, drop, Option, Some, None, Result, Ok, Err}
+use Rattle.std.specs.Prelude.{◌≡◌, ℕ, ◌+◌, ◌≤◌, List, [], ◌∷◌, ◌++◌, length, drop, Option, Some, None, Ok, Err}
 use Rattle.sr_base.specs.declared.packet.Packet.{Packet}
 use Rattle.sr_frame.specs.declared.seen.Seen.{Seen}
 use Rattle.sr_frame.specs.declared.seen.Seen.TheVariants as seen_as
@@ -11,24 +11,11 @@ use Rattle.sr_pcap.specs.declared.format.Format.{Format}
 use Rattle.sr_pcap.specs.declared.next.Next.{Next}
 use Rattle.sr_pcap.specs.declared.next.Next.TheVariants.{Whole, End, Truncated, ReadFault, TooLong}
 use Rattle.sr_pcap.specs.Format.{header_of}
-use Rattle.sr_pcap.specs.Next.{next_at, frame_at, rest_at}
+use Rattle.sr_pcap.specs.Records.{Frame, Records, records_from}
 use Rattle.sr_run.specs.declared.status.CaptureRefusal.{CaptureRefusal}
 use Rattle.sr_run.specs.declared.status.CaptureRefusal.TheVariants as refusal
 use Rattle.sr_run.specs.declared.capture.Reading.{Reading}
 use Rattle.sr_run.specs.declared.capture.Reading.TheVariants as reading
-
--- the captured bytes of each whole record, and the refusal of the next one, if it is refused
-pub record Records : Type 0 where
-  pub frames : List (List ℕ)
-  pub ending : Option CaptureRefusal
-
--- no record more
-abbrev pub ended : Option CaptureRefusal → Records
-ended ending = record { frames = []; ending = ending }
-
--- one record, and then those
-abbrev pub with_frame : List ℕ → Records → Records
-with_frame frame rest = record { frames = frame ∷ rest.frames; ending = rest.ending }
 
 -- the refusal of what comes after the last record, where no further one may come
 abbrev pub ending_of : Next → Option CaptureRefusal
@@ -38,19 +25,9 @@ ending_of (Truncated offset) = Some (refusal.Cut offset)
 ending_of ReadFault = None
 ending_of (TooLong offset size) = Some (refusal.TooLong offset)
 
--- a whole record and those behind it, or what ends the capture
-abbrev pub records_after : Next → List ℕ → Records → Records
-records_after (Whole ms offset) frame behind = with_frame frame behind
-records_after End frame behind = ended (ending_of End)
-records_after (Truncated offset) frame behind = ended (ending_of (Truncated offset))
-records_after ReadFault frame behind = ended (ending_of ReadFault)
-records_after (TooLong offset size) frame behind = ended (ending_of (TooLong offset size))
-
--- the records in these bytes, the first of which stands at this offset, where so many whole ones may come
-unfoldable pub records_from : ℕ → Format → ℕ → List ℕ → Records
-records_from zero format offset bytes = ended (ending_of (next_at format offset bytes))
-records_from (suc room) format offset bytes =
-    records_after (next_at format offset bytes) (frame_at format bytes) (records_from room format (offset + (16 + length (frame_at format bytes))) (rest_at format bytes))
+-- the records behind a header: 4,194,304 of them at most
+unfoldable pub records_behind : Format → List ℕ → Records
+records_behind format bytes = records_from format 4194304 24 bytes
 
 -- the packet in the record of this position, if it has one
 abbrev pub packet_of : ℕ → Seen → List Packet
@@ -62,15 +39,15 @@ abbrev pub skip_of : ℕ → Seen → List (ℕ × Skip)
 skip_of number (seen_as.Packet key kind) = []
 skip_of number (seen_as.Skipped why) = (number, why) ∷ []
 
--- the packets in these frames, the first of which has this position
-abbrev pub packets_from : ℕ → (ℕ × ℕ) → ℕ → List (List ℕ) → List Packet
+-- the packets in these records, the first of which has this position
+abbrev pub packets_from : ℕ → (ℕ × ℕ) → ℕ → List Frame → List Packet
 packets_from link vip number [] = []
-packets_from link vip number (frame ∷ frames) = packet_of number (seen link frame (vip ∷ [])) ++ packets_from link vip (number + 1) frames
+packets_from link vip number (frame ∷ frames) = packet_of number (seen link frame.bytes (vip ∷ [])) ++ packets_from link vip (number + 1) frames
 
--- the skipped ones of these frames
-abbrev pub skips_from : ℕ → (ℕ × ℕ) → ℕ → List (List ℕ) → List (ℕ × Skip)
+-- the skipped ones of these records
+abbrev pub skips_from : ℕ → (ℕ × ℕ) → ℕ → List Frame → List (ℕ × Skip)
 skips_from link vip number [] = []
-skips_from link vip number (frame ∷ frames) = skip_of number (seen link frame (vip ∷ [])) ++ skips_from link vip (number + 1) frames
+skips_from link vip number (frame ∷ frames) = skip_of number (seen link frame.bytes (vip ∷ [])) ++ skips_from link vip (number + 1) frames
 
 -- the refusal of a header; a definition answers neither a fault nor want of memory
 abbrev pub header_refusal : BeginRefusal → CaptureRefusal
@@ -83,9 +60,9 @@ header_refusal begin.Memory = refusal.Magic
 
 -- What was kept is what the records behind the header say; where no record was refused, the source has no byte left.
 pub record Keeps (format : Format) (vip : ℕ × ℕ) (xs : List ℕ) (left : Option (List ℕ)) (skips : List (ℕ × Skip)) (packets : List Packet) (ending : Option CaptureRefusal) : Type 0 where
-  pub skips_are : skips ≡ skips_from format.link vip 1 (records_from 4194304 format 24 xs).frames
-  pub packets_are : packets ≡ packets_from format.link vip 1 (records_from 4194304 format 24 xs).frames
-  pub ending_is : ending ≡ (records_from 4194304 format 24 xs).ending
+  pub skips_are : skips ≡ skips_from format.link vip 1 (records_behind format xs).frames
+  pub packets_are : packets ≡ packets_from format.link vip 1 (records_behind format xs).frames
+  pub ending_is : ending ≡ ending_of (records_behind format xs).ending
   pub all : ending ≡ None → left ≡ Some []
 
 -- what reading the records behind a header of this format gives

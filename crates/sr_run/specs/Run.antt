@@ -11,18 +11,18 @@ use Rattle.sr_run.specs.declared.command.Command.TheVariants.{One}
 use Rattle.sr_run.specs.declared.status.CaptureRefusal.{CaptureRefusal}
 use Rattle.sr_run.specs.declared.status.Status.{Status}
 use Rattle.sr_run.specs.declared.status.Status.TheVariants.{Done, Usage, Capture, ReadFault, WriteFault, Memory}
-use Rattle.sr_run.specs.Capture.{records_from, packets_from, skips_from, header_refusal}
+use Rattle.sr_run.specs.Capture.{records_behind, ending_of, packets_from, skips_from, header_refusal}
 use Rattle.sr_run.specs.One.{one_text}
 
 -- the refusal of a capture with this header, if it is refused
 abbrev pub refusal_in : Result Format BeginRefusal → List ℕ → Option CaptureRefusal
-refusal_in (Ok format) bytes = (records_from 4194304 format 24 bytes).ending
+refusal_in (Ok format) bytes = ending_of (records_behind format bytes).ending
 refusal_in (Err why) bytes = Some (header_refusal why)
 
 -- what a command prints of a capture with this header
 abbrev pub printed_in : Result Format BeginRefusal → ℕ × ℕ → ℕ → List ℕ → List ℕ
 printed_in (Ok format) vip servers bytes =
-    let frames = (records_from 4194304 format 24 bytes).frames in
+    let frames = (records_behind format bytes).frames in
     one_text servers (skips_from format.link vip 1 frames) (packets_from format.link vip 1 frames)
 printed_in (Err why) vip servers bytes = []
 

@@ -1,5 +1,5 @@
 use Rattle.std.proofs.Common.{◌≡◌, ℕ, ◌+◌, ◌*◌, ◌≤◌, List, Some, None, vec_len}
-use Rattle.sr_run.specs.Capture.{records_from}
+use Rattle.sr_run.specs.Capture.{records_behind}
 use Rattle.sr_run.proofs.CaptureRecords.{Reached}
 use Rattle.sr_run.proofs.capture.read_records.Given as goal
 
@@ -14,5 +14,5 @@ invariant-loop-number g l =
       few : vec_len l.packets ≤ l.number;
       count : faults l.fn.source ≤ faults l.source;
       reached : (xs : List ℕ) → left l.fn.source ≡ Some xs
-        → Reached l.initial.reader.format l.vip (records_from 4194304 l.initial.reader.format 24 xs) l.number l.reader.offset (left l.source) l.skips.items l.packets.items;
+        → Reached l.initial.reader.format l.vip (records_behind l.initial.reader.format xs) l.number l.reader.offset (left l.source) l.skips.items l.packets.items;
     }
