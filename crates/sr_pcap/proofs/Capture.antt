@@ -1,17 +1,25 @@
 -- How the records of a capture go on after one of them, for whoever reads them in a loop.
-use Rattle.std.proofs.Common.{◌≡◌, ℕ, zero, suc, ◌+◌, ◌-◌, ◌^◌, ◌≤◌, List, min, refl, sym, ap, ◌∙◌, arith}
+use Rattle.std.proofs.Common.{◌≡◌, ℕ, zero, suc, ◌+◌, ◌-◌, ◌^◌, ◌≤◌, List, length, Option, refl, sym, ap, ◌∙◌, arith}
 use Rattle.sr_pcap.specs.declared.format.Format.{Format}
 use Rattle.sr_pcap.specs.declared.next.Next.{Next}
 use Rattle.sr_pcap.specs.declared.next.Next.TheVariants.{Whole, End, Truncated, ReadFault, TooLong}
 use Rattle.sr_pcap.specs.Next.{next_at, size_at, frame_at, rest_at}
+use Rattle.sr_pcap.specs.Reader.{TakesRecord}
 use Rattle.sr_pcap.specs.Records.{Frame, Records, ended, with_frame, records_from}
 
--- a whole record comes first
-pub records_whole : (format : Format) (room offset ms at : ℕ) (bytes : List ℕ) → next_at format offset bytes ≡ Whole ms at
-    → records_from format (suc room) offset bytes
-    ≡ with_frame (record { ms = ms; bytes = frame_at format bytes }) (records_from format room (offset + (16 + size_at format bytes)) (rest_at format bytes))
+-- a whole record was read
+pub records_go_on : (format : Format) (room offset ms at : ℕ) (xs bytes : List ℕ) (left : Option (List ℕ)) → TakesRecord ms at format offset xs bytes left
+    → records_from format (suc room) offset xs
+    ≡ with_frame (record { ms = ms; bytes = bytes }) (records_from format room (offset + (16 + length bytes)) (rest_at format xs))
 unfolding records_from
-records_whole format room offset ms at bytes e = rw (e, records_from) refl
+records_go_on format room offset ms at xs bytes left read =
+    let e = read.next in
+    let step : records_from format (suc room) offset xs
+      ≡ with_frame (record { ms = ms; bytes = frame_at format xs }) (records_from format room (offset + (16 + size_at format xs)) (rest_at format xs)) =
+    rw (e, records_from) refl in
+    step
+    ∙ ap (λ (ys : List ℕ). with_frame (record { ms = ms; bytes = ys }) (records_from format room (offset + (16 + size_at format xs)) (rest_at format xs))) (sym read.frame)
+    ∙ ap (λ (n : ℕ). with_frame (record { ms = ms; bytes = bytes }) (records_from format room (offset + (16 + n)) (rest_at format xs))) (sym read.size)
 
 -- no whole record comes
 abbrev pub IsLast : Next → Type 0
@@ -21,6 +29,7 @@ IsLast (Truncated at) = Unit {0}
 IsLast ReadFault = Unit {0}
 IsLast (TooLong at size) = Unit {0}
 
+-- what was answered is what comes after the records
 pub records_last : (format : Format) (room offset : ℕ) (bytes : List ℕ) (next : Next) → next_at format offset bytes ≡ next → IsLast next
     → records_from format room offset bytes ≡ ended next
 unfolding records_from

@@ -91,14 +91,6 @@ rest_read format xs header left same rest =
     ∙ ap (λ (ys : List ℕ). Some ys) (drop-drop (captured_length format header) 16 xs)
     ∙ ap (λ (ys : List ℕ). Some (drop (16 + captured_length format ys) xs)) same
 
--- the header and the captured bytes are all that was taken
-taken_whole : (format : Format) (size : ℕ) (xs header bytes : List ℕ) → size ≡ captured_length format header → 16 ≤ length xs → header ≡ take 16 xs
-    → size ≤ length (drop 16 xs) → bytes ≡ take size (drop 16 xs) → 16 + length bytes + length (rest_at format xs) ≡ length xs
-taken_whole format size xs header bytes is enough same all taken =
-    let there : length bytes ≡ size = ap length taken ∙ length-take-le size (drop 16 xs) all in
-    let sized : size ≡ size_at format xs = is ∙ ap (captured_length format) same in
-    omega (arith, length-drop (16 + size_at format xs) xs, length-drop 16 xs)
-
 -- the answers of a reader, each with what it read
 
 pub answers_none : (format : Format) (offset : ℕ) (r : Next) (xs bytes : List ℕ) (left : Option (List ℕ)) → r ≡ End → length xs ≡ 0 → left ≡ Some [] → Answers r format offset xs bytes left
@@ -130,7 +122,11 @@ pub answers_whole : (format : Format) (offset : ℕ) (ms size : ℕ) (xs header 
     → size ≡ captured_length format header → 16 ≤ length xs → header ≡ take 16 xs → size ≤ 262144 → size ≤ length (drop 16 xs)
     → bytes ≡ take size (drop 16 xs) → left ≡ Some (drop size (drop 16 xs)) → Answers (Whole ms offset) format offset xs bytes left
 answers_whole format offset ms size xs header bytes left when is enough same fits all taken rest =
-    (next_whole format offset xs header enough same (omega arith) (omega arith) ∙ ap (λ (t : ℕ). Whole t offset) (sym when),
-     frame_read format xs header bytes same (taken ∙ ap (λ (s : ℕ). take s (drop 16 xs)) is),
-     rest_read format xs header left same (rest ∙ ap (λ (s : ℕ). Some (drop s (drop 16 xs))) is),
-     taken_whole format size xs header bytes is enough same all taken)
+    let there : length bytes ≡ size = ap length taken ∙ length-take-le size (drop 16 xs) all in
+    record {
+      next = next_whole format offset xs header enough same (omega arith) (omega arith) ∙ ap (λ (t : ℕ). Whole t offset) (sym when);
+      frame = frame_read format xs header bytes same (taken ∙ ap (λ (s : ℕ). take s (drop 16 xs)) is);
+      size = there ∙ is ∙ ap (captured_length format) same;
+      within = omega (arith, length-drop 16 xs);
+      rest = rest_read format xs header left same (rest ∙ ap (λ (s : ℕ). Some (drop s (drop 16 xs))) is);
+    }

@@ -37,12 +37,18 @@ Steps (Truncated offset) old new = (offset ≡ old.offset) × (new ≡ ended_by 
 Steps ReadFault old new = new ≡ ended_by old ReadFault
 Steps (TooLong offset size) old new = (offset ≡ old.offset) × (262144 < size) × (new ≡ ended_by old (TooLong offset size))
 
--- What comes next in these bytes was answered, where the first of them stands at this offset. Of a whole record the captured bytes are
--- there, the bytes after it are left, and nothing but its header and they was taken.
+-- Of the record that comes next in these bytes, where the first of them stands at this offset, the captured bytes are there. Its header
+-- and they were taken, and the bytes after it are left.
+pub record TakesRecord (ms at : ℕ) (format : Format) (offset : ℕ) (xs bytes : List ℕ) (left : Option (List ℕ)) : Type 0 where
+  pub next : next_at format offset xs ≡ Whole ms at
+  pub frame : bytes ≡ frame_at format xs
+  pub size : length bytes ≡ size_at format xs
+  pub within : 16 + length bytes ≤ length xs
+  pub rest : left ≡ Some (rest_at format xs)
+
+-- What comes next in these bytes was answered, where the first of them stands at this offset.
 abbrev pub Answers : Next → Format → ℕ → List ℕ → List ℕ → Option (List ℕ) → Type 0
-Answers (Whole ms at) format offset xs bytes left =
-    (next_at format offset xs ≡ Whole ms at) × (bytes ≡ frame_at format xs) × (left ≡ Some (rest_at format xs))
-    × (16 + length bytes + length (rest_at format xs) ≡ length xs)
+Answers (Whole ms at) format offset xs bytes left = TakesRecord ms at format offset xs bytes left
 Answers End format offset xs bytes left = (next_at format offset xs ≡ End) × (left ≡ Some [])
 Answers (Truncated at) format offset xs bytes left = (next_at format offset xs ≡ Truncated at) × (left ≡ Some [])
 Answers ReadFault format offset xs bytes left = Unit {0}
