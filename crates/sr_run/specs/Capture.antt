@@ -58,6 +58,15 @@ header_refusal begin.LinkType = refusal.LinkType
 header_refusal begin.ReadFault = refusal.Magic
 header_refusal begin.Memory = refusal.Magic
 
+-- how reading ends where the header wasn't read
+abbrev pub reading_without : BeginRefusal → Reading
+reading_without (begin.Truncated offset) = reading.Refused (refusal.Cut offset)
+reading_without begin.Magic = reading.Refused refusal.Magic
+reading_without begin.Major = reading.Refused refusal.Major
+reading_without begin.LinkType = reading.Refused refusal.LinkType
+reading_without begin.ReadFault = reading.ReadFault
+reading_without begin.Memory = reading.Memory
+
 -- What was kept is what the records behind the header say; where no record was refused, the source has no byte left.
 pub record Keeps (format : Format) (vip : ℕ × ℕ) (xs : List ℕ) (left : Option (List ℕ)) (skips : List (ℕ × Skip)) (packets : List Packet) (ending : Option CaptureRefusal) : Type 0 where
   pub skips_are : skips ≡ skips_from format.link vip 1 (records_behind format xs).frames

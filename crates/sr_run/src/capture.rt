@@ -1,6 +1,6 @@
-ghost use Rattle.std.specs.Prelude.{◌≡◌, ◌≤◌, ◌+◌, ◌++◌, ◌⊎◌, ◌<◌, List, ℕ, Some, None, OnOk, vec_len};
+ghost use Rattle.std.specs.Prelude.{◌≡◌, ◌≤◌, ◌+◌, ◌++◌, ◌⊎◌, ◌<◌, List, ℕ, Some, None, OnOk, length};
 ghost use Rattle.sr_io.specs.Faults.{Rose};
-ghost use Rattle.sr_run.specs.Capture.{Reads, ReadsOn, IsFew, IsReadFault, EndsWith, packet_of, skip_of};
+ghost use Rattle.sr_run.specs.Capture.{Reads, ReadsOn, IsFew, IsReadFault, EndsWith, packet_of, reading_without, skip_of};
 
 use crate::CaptureRefusal;
 use sr_base::Packet;
@@ -49,12 +49,21 @@ pub(crate) fn read_capture<S: Source>(
 {
     match Reader::begin(alloc, source) {
         Ok(reader) => read_records(alloc, vip, reader, source),
-        Err(BeginRefusal::Truncated { offset }) => Reading::Refused(CaptureRefusal::Cut { offset }),
-        Err(BeginRefusal::Magic) => Reading::Refused(CaptureRefusal::Magic),
-        Err(BeginRefusal::Major) => Reading::Refused(CaptureRefusal::Major),
-        Err(BeginRefusal::LinkType) => Reading::Refused(CaptureRefusal::LinkType),
-        Err(BeginRefusal::ReadFault) => Reading::ReadFault,
-        Err(BeginRefusal::Memory) => Reading::Memory,
+        Err(why) => without_header(why),
+    }
+}
+
+// How reading ended where the header wasn't read.
+fn without_header(why: BeginRefusal) -> Reading
+    ensures { result ≡ reading_without why }
+{
+    match why {
+        BeginRefusal::Truncated { offset } => Reading::Refused(CaptureRefusal::Cut { offset }),
+        BeginRefusal::Magic => Reading::Refused(CaptureRefusal::Magic),
+        BeginRefusal::Major => Reading::Refused(CaptureRefusal::Major),
+        BeginRefusal::LinkType => Reading::Refused(CaptureRefusal::LinkType),
+        BeginRefusal::ReadFault => Reading::ReadFault,
+        BeginRefusal::Memory => Reading::Memory,
     }
 }
 
@@ -98,7 +107,7 @@ fn keep(
 ) -> Result<(), AllocError>
     ensures skips { OnOk result (skips.new.items ≡ skips.old.items ++ skip_of number seen) }
     ensures packets { OnOk result (packets.new.items ≡ packets.old.items ++ packet_of number seen) }
-    ensures few { vec_len packets.new ≤ vec_len packets.old + 1 }
+    ensures few { length packets.new.items ≤ length packets.old.items + 1 }
 {
     match seen {
         Seen::Packet { key, kind } => {
