@@ -1,4 +1,5 @@
 mod AddressLists
 mod CaptureRecords
 mod PrintedLines
+mod Running
 mod Writing

@@ -1,4 +1,4 @@
-ghost use Rattle.std.specs.Prelude.{◌≡◌, ◌≤◌, List, ℕ, Some, length};
+ghost use Rattle.std.specs.Prelude.{◌≡◌, ◌≢◌, ◌≤◌, List, ℕ, Some, length};
 ghost use Rattle.sr_io.specs.Faults.{Rose};
 ghost use Rattle.sr_run.specs.Run.{Answers, WritesNothing, EndsPrinting, finished};
 ghost use Rattle.sr_run.specs.One.{one_text};
@@ -21,6 +21,7 @@ pub(crate) fn run_one<S: Source, K: Sink>(
 ) -> Status
     requires { 1 ≤ servers }
     ensures one { (xs : List ℕ) → S.left source.old ≡ Some xs → Answers result (One vip servers) xs (S.left source.new) (K.taken sink.old) (K.taken sink.new) }
+    ensures a_command { result ≢ status.Usage }
     ensures quiet { WritesNothing result (K.taken sink.old) (K.taken sink.new) }
     ensures source_count { S.faults source.old ≤ S.faults source.new }
     ensures sink_count { K.faults sink.old ≤ K.faults sink.new }
