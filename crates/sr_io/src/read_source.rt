@@ -28,7 +28,7 @@ impl<R: Read> ReadSource<R> {
 
 // One read, tried again where a signal cut it short.
 #[tactic(auto, using(crate::proofs::Kept::keeps_same, crate::proofs::Kept::keeps_then, crate::proofs::Kept::reads_then))]
-fn read_whole<R: Read>(reader: &mut R, into: &mut [u8]) -> io::Result<usize>
+fn read_retried<R: Read>(reader: &mut R, into: &mut [u8]) -> io::Result<usize>
     ensures bound { ReadsAtMost result into.new }
     ensures bytes { ReadConsumes (R.remaining reader.old) (R.remaining reader.new) result into.new }
 {
@@ -57,7 +57,7 @@ impl<R: Read> Source for ReadSource<R> {
         ensures failed { result ≡ Failed → Rose self.old.faults self.new.faults }
         ensures reader { (xs : List ℕ) → R.remaining self.old.reader ≡ Some xs → Takes result xs into.new (R.remaining self.new.reader) }
     {
-        match read_whole(&mut self.reader, into) {
+        match read_retried(&mut self.reader, into) {
             Ok(0) => Got::End,
             Ok(n) => Got::Bytes(n),
             Err(_) => {

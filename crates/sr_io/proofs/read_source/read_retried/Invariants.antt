@@ -1,5 +1,5 @@
 use Rattle.std.specs.Io.KnownBytes.{Keeps}
-use Rattle.sr_io.proofs.read_source.read_whole.Given as goal
+use Rattle.sr_io.proofs.read_source.read_retried.Given as goal
 
 -- the tries so far took nothing
 abbrev pub invariant-loop : goal.invariant-loop
