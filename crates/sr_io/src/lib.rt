@@ -1,5 +1,12 @@
 //! What the load balancer has of the outside: a source of bytes, a shelf of named texts, a sink for what is printed, and a gate that
 //! a packet passes. Each is a trait whose clauses say what is known of the bytes, where anything is known, and that a fault has a cause.
+//!
+//! | part | what it is |
+//! |---|---|
+//! | `Source`, `Shelf`, `Sink`, `Gate` | the traits |
+//! | `ReadSource`, `FileShelf`, `WriteSink`, `OpenGate` | what the program runs on: std's reader, files and writer |
+//! | `MemSource`, `MemShelf`, `MemSink` | in memory, with a list of the calls that fail |
+//! | `SureSource`, `SureShelf`, `SureSink` | in memory, where no call fails: the law is `read_surely` and its like |
 #![tactic(auto)]
 
 mod bounded_bytes;

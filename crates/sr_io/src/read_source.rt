@@ -1,5 +1,9 @@
-ghost use Rattle.std.specs.Prelude.{◌≡◌, None};
+ghost use Rattle.std.specs.Prelude.{◌≡◌, ℕ, ◌<◌, ◌≤◌, List, length, None, Some};
 ghost use Rattle.std.specs.Io.{ReadsAtMost};
+ghost use Rattle.std.specs.Io.KnownBytes.{ReadConsumes};
+ghost use Rattle.sr_io.specs.Faults.{Rose};
+ghost use Rattle.sr_io.specs.Source.{IsWithin, Takes};
+ghost use Rattle.sr_io.specs.declared.source.Got.TheVariants.{Failed};
 
 use crate::{Got, Source};
 use std::io::{self, ErrorKind, Read};
@@ -7,7 +11,7 @@ use std::io::{self, ErrorKind, Read};
 // How often a read is tried that a signal cut short.
 const TRIES: u32 = 16;
 
-/// A reader of std as a source. It tells nothing of its bytes.
+/// A reader of std as a source. As a source it tells nothing of its bytes; where the reader tells them, a read takes those.
 #[derive(Drop)]
 pub struct ReadSource<R> {
     reader: R,
@@ -23,8 +27,10 @@ impl<R: Read> ReadSource<R> {
 }
 
 // One read, tried again where a signal cut it short.
-fn read_whole<R: Read>(reader: &mut R, into: &mut [u8]) -> io::Result<usize>
-    ensures { ReadsAtMost result into.new }
+#[tactic(auto, using(crate::proofs::Kept::keeps_same, crate::proofs::Kept::keeps_then, crate::proofs::Kept::reads_then))]
+fn read_retried<R: Read>(reader: &mut R, into: &mut [u8]) -> io::Result<usize>
+    ensures bound { ReadsAtMost result into.new }
+    ensures bytes { ReadConsumes (R.remaining reader.old) (R.remaining reader.new) result into.new }
 {
     for _ in 1..TRIES {
         match reader.read(into) {
@@ -44,8 +50,14 @@ impl<R: Read> Source for ReadSource<R> {
 
     ghost faults = { λ s. s.faults };
 
-    fn read(&mut self, into: &mut [u8]) -> Got {
-        match read_whole(&mut self.reader, into) {
+    fn read(&mut self, into: &mut [u8]) -> Got
+        requires { 0 < length into.old }
+        ensures within { IsWithin result (length into.new) }
+        ensures count { self.old.faults ≤ self.new.faults }
+        ensures failed { result ≡ Failed → Rose self.old.faults self.new.faults }
+        ensures reader { (xs : List ℕ) → R.remaining self.old.reader ≡ Some xs → Takes result xs into.new (R.remaining self.new.reader) }
+    {
+        match read_retried(&mut self.reader, into) {
             Ok(0) => Got::End,
             Ok(n) => Got::Bytes(n),
             Err(_) => {

@@ -1,7 +1,10 @@
 //! The law of what never fails: over it no call answers a fault. It is proved from what the traits say alone, by the count of faults.
-ghost use Rattle.std.specs.Prelude.{◌≡◌, ◌≢◌, ◌<◌, length};
+ghost use Rattle.std.specs.Prelude.{◌≡◌, ◌≢◌, ℕ, ◌<◌, List, length, Option, Some};
 ghost use Rattle.sr_io.specs.Faults.{Rose};
-ghost use Rattle.sr_io.specs.Shelf.{FetchFailed};
+ghost use Rattle.sr_io.specs.Shelf.{Fetches, FetchFailed};
+ghost use Rattle.sr_io.specs.Sink.{Puts, Adds};
+ghost use Rattle.sr_io.specs.Source.{IsWithin, Takes};
+ghost use Rattle.sr_io.specs.SureSink.{told_of};
 
 use crate::{FetchRefusal, Got, Put, Shelf, Sink, Source, SureShelf, SureSink, SureSource};
 use std::alloc::Global;
@@ -9,7 +12,9 @@ use std::alloc::Global;
 // One read of any source.
 fn read_any<S: Source>(source: &mut S, into: &mut [u8]) -> Got
     requires { 0 < length into.old }
-    ensures { result ≡ Got.Failed → Rose (S.faults source.old) (S.faults source.new) }
+    ensures within { IsWithin result (length into.new) }
+    ensures bytes { (xs : List ℕ) → S.left source.old ≡ Some xs → Takes result xs into.new (S.left source.new) }
+    ensures failed { result ≡ Got.Failed → Rose (S.faults source.old) (S.faults source.new) }
 {
     source.read(into)
 }
@@ -21,14 +26,16 @@ fn fetch_any<F: Shelf>(
     name: &str,
     limit: usize,
 ) -> Result<Vec<u8>, FetchRefusal>
-    ensures { FetchFailed result → Rose (F.faults shelf.old) (F.faults shelf.new) }
+    ensures text { (told : List ℕ → Option (List ℕ)) → F.texts shelf.old ≡ Some told → Fetches (λ v. v.items) result (told name.now) limit }
+    ensures failed { FetchFailed result → Rose (F.faults shelf.old) (F.faults shelf.new) }
 {
     shelf.fetch(alloc, name, limit)
 }
 
 // One write to any sink.
 fn write_any<K: Sink>(sink: &mut K, bytes: &[u8]) -> Put
-    ensures { result ≡ Put.Failed → Rose (K.faults sink.old) (K.faults sink.new) }
+    ensures bytes { Puts result (K.taken sink.old) (K.taken sink.new) bytes.now }
+    ensures failed { result ≡ Put.Failed → Rose (K.faults sink.old) (K.faults sink.new) }
 {
     sink.write(bytes)
 }
@@ -43,7 +50,9 @@ fn flush_any<K: Sink>(sink: &mut K) -> Put
 /// A read that can't fail.
 pub fn read_surely(source: &mut SureSource, into: &mut [u8]) -> Got
     requires { 0 < length into.old }
-    ensures { result ≢ Got.Failed }
+    ensures never { result ≢ Got.Failed }
+    ensures within { IsWithin result (length into.new) }
+    ensures bytes { Takes result source.old.left into.new (Some source.new.left) }
 {
     read_any(source, into)
 }
@@ -55,14 +64,16 @@ pub fn fetch_surely(
     name: &str,
     limit: usize,
 ) -> Result<Vec<u8>, FetchRefusal>
-    ensures { ¬ FetchFailed result }
+    ensures never { ¬ FetchFailed result }
+    ensures text { Fetches (λ v. v.items) result (Some shelf.old) limit }
 {
     fetch_any(shelf, alloc, name, limit)
 }
 
 /// A write that can't fail.
 pub fn write_surely(sink: &mut SureSink, bytes: &[u8]) -> Put
-    ensures { result ≡ Put.All }
+    ensures never { result ≡ Put.All }
+    ensures bytes { Adds (told_of sink.old) (told_of sink.new) bytes.now }
 {
     write_any(sink, bytes)
 }

@@ -1,9 +1,12 @@
-ghost use Rattle.std.specs.Prelude.{◌≡◌, None};
+ghost use Rattle.std.specs.Prelude.{◌≡◌, ◌≤◌, None};
+ghost use Rattle.std.specs.Io.KnownBytes.{Appends, Keeps};
+ghost use Rattle.sr_io.specs.Faults.{Rose};
+ghost use Rattle.sr_io.specs.declared.sink.Put.TheVariants.{All, Failed};
 
 use crate::{Put, Sink};
 use std::io::Write;
 
-/// A writer of std as a sink. It tells nothing of its bytes.
+/// A writer of std as a sink. As a sink it tells nothing of its bytes; where the writer tells them, All says that it has these too.
 #[derive(Drop)]
 pub struct WriteSink<W> {
     writer: W,
@@ -23,7 +26,11 @@ impl<W: Write> Sink for WriteSink<W> {
 
     ghost faults = { λ s. s.faults };
 
-    fn write(&mut self, bytes: &[u8]) -> Put {
+    fn write(&mut self, bytes: &[u8]) -> Put
+        ensures count { self.old.faults ≤ self.new.faults }
+        ensures failed { result ≡ Failed → Rose self.old.faults self.new.faults }
+        ensures writer { result ≡ All → Appends (W.contents self.old.writer) (W.contents self.new.writer) bytes.now }
+    {
         match self.writer.write_all(bytes) {
             Ok(()) => Put::All,
             Err(_) => {
@@ -33,7 +40,11 @@ impl<W: Write> Sink for WriteSink<W> {
         }
     }
 
-    fn flush(&mut self) -> Put {
+    fn flush(&mut self) -> Put
+        ensures count { self.old.faults ≤ self.new.faults }
+        ensures failed { result ≡ Failed → Rose self.old.faults self.new.faults }
+        ensures writer { Keeps (W.contents self.old.writer) (W.contents self.new.writer) }
+    {
         match self.writer.flush() {
             Ok(()) => Put::All,
             Err(_) => {
