@@ -15,7 +15,7 @@ unfolding records_from
 records_go_on format room offset ms at xs bytes left read =
     let e = read.next in
     let step : records_from format (suc room) offset xs
-      ≡ with_frame (record { ms = ms; bytes = frame_at format xs }) (records_from format room (offset + (16 + size_at format xs)) (rest_at format xs)) =
+    ≡ with_frame (record { ms = ms; bytes = frame_at format xs }) (records_from format room (offset + (16 + size_at format xs)) (rest_at format xs)) =
     rw (e, records_from) refl in
     step
     ∙ ap (λ (ys : List ℕ). with_frame (record { ms = ms; bytes = ys }) (records_from format room (offset + (16 + size_at format xs)) (rest_at format xs))) (sym read.frame)

@@ -27,9 +27,9 @@ unfoldable pub records_from : Format → ℕ → ℕ → List ℕ → Records
 records_from format zero offset bytes = ended (next_at format offset bytes)
 records_from format (suc room) offset bytes =
     elim (next_at format offset bytes) [
-      Whole ms at ↦
-        with_frame (record { ms = ms; bytes = frame_at format bytes })
-        (records_from format room (offset + (16 + size_at format bytes)) (rest_at format bytes))
+      | Whole ms at ↦
+          with_frame (record { ms = ms; bytes = frame_at format bytes })
+          (records_from format room (offset + (16 + size_at format bytes)) (rest_at format bytes))
       | End ↦ ended End
       | Truncated at ↦ ended (Truncated at)
       | ReadFault ↦ ended ReadFault

@@ -20,3 +20,6 @@ pub use format::Format;
 pub use next::Next;
 pub use reader::Reader;
 pub use resolution::Resolution;
+
+#[cfg(test)]
+mod tests;

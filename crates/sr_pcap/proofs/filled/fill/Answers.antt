@@ -8,9 +8,9 @@ loop-at-preserved g c =
     record {
       within = let took = c.in-Bytes.ensures.within in let same = c.read.auto.into in omega arith;
       holds = λ xs h.
-        let held = c.loop-at.invariant.holds xs h in
-        let took = c.in-Bytes.ensures.bytes (drop c.loop-at.at xs) held.rest in
-        holds_more c.loop-at.at c.in-Bytes.n (c.args.size - c.loop-at.at) xs c.loop-at.into c.read.new.into _ _ within c.in-Bytes.ensures.within.1 held took.0 took.1 took.2;
+          let held = c.loop-at.invariant.holds xs h in
+          let took = c.in-Bytes.ensures.bytes (drop c.loop-at.at xs) held.rest in
+          holds_more c.loop-at.at c.in-Bytes.n (c.args.size - c.loop-at.at) xs c.loop-at.into c.read.new.into _ _ within c.in-Bytes.ensures.within.1 held took.0 took.1 took.2;
       count = omega arith;
     }
 
