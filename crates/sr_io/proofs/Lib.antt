@@ -1,2 +1,3 @@
 pub mod Adding
 mod Kept
+pub mod Writing

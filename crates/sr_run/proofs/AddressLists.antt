@@ -17,18 +17,18 @@ onto_read known a (Some others) = ap Some (sym (append_assoc known (a ∷ []) ot
 
 -- one address more
 pub prefixed_more : (known : List (ℕ × ℕ)) (text : List ℕ) (texts : List (List ℕ)) (a : ℕ × ℕ) → address_of text ≡ Some a
-  → prefixed known (addresses_of (text ∷ texts)) ≡ prefixed (known ++ a ∷ []) (addresses_of texts)
+    → prefixed known (addresses_of (text ∷ texts)) ≡ prefixed (known ++ a ∷ []) (addresses_of texts)
 prefixed_more known text texts a e = ap (λ o. prefixed known (option_and_then (λ b. option_map (λ others. b ∷ others) (addresses_of texts)) o)) e ∙ onto_read known a (addresses_of texts)
 
 -- a text that is no address
 pub prefixed_none : (known : List (ℕ × ℕ)) (text : List ℕ) (texts : List (List ℕ)) → address_of text ≡ None
-  → prefixed known (addresses_of (text ∷ texts)) ≡ None
+    → prefixed known (addresses_of (text ∷ texts)) ≡ None
 prefixed_none known text texts e = ap (λ o. prefixed known (option_and_then (λ b. option_map (λ others. b ∷ others) (addresses_of texts)) o)) e
 
 -- the first text ends at the first comma
 pub split_more : (rest front back : List ℕ) → position_or_len (λ b. b == 44) rest < length rest
-  → front ≡ before_first (λ b. b == 44) rest → back ≡ after_first (λ b. b == 44) rest
-  → slice_split (λ b. b == 44) rest ≡ front ∷ slice_split (λ b. b == 44) back
+    → front ≡ before_first (λ b. b == 44) rest → back ≡ after_first (λ b. b == 44) rest
+    → slice_split (λ b. b == 44) rest ≡ front ∷ slice_split (λ b. b == 44) back
 split_more rest front back comma is_front is_back =
     slice_split_first (λ b. b == 44) rest 0 comma ∙ ap (λ t. t ∷ slice_split (λ b. b == 44) (after_first (λ b. b == 44) rest)) (sym is_front)
     ∙ ap (λ t. front ∷ slice_split (λ b. b == 44) t) (sym is_back)

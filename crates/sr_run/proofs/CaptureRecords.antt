@@ -30,7 +30,7 @@ pub record Reached (format : Format) (vip : ℕ × ℕ) (all : Records) (number 
 
 -- before the first record
 pub reached_none : (format : Format) (vip : ℕ × ℕ) (xs : List ℕ) (left : Option (List ℕ)) (offset : ℕ) (skips : List (ℕ × Skip)) (packets : List Packet)
-  → left ≡ Some xs → offset ≡ 24 → skips ≡ [] → packets ≡ [] → Reached format vip (records_behind format xs) 0 offset left skips packets
+    → left ≡ Some xs → offset ≡ 24 → skips ≡ [] → packets ≡ [] → Reached format vip (records_behind format xs) 0 offset left skips packets
 unfolding records_behind
 reached_none format vip xs left offset skips packets e begins no_skips no_packets =
     record {
@@ -45,19 +45,20 @@ reached_none format vip xs left offset skips packets e begins no_skips no_packet
 
 -- one record more
 pub reached_more : {format : Format} {vip : ℕ × ℕ} {all : Records} {number offset : ℕ} {left new : Option (List ℕ)} {skips : List (ℕ × Skip)} {packets : List Packet} {bytes : List ℕ} (ms at : ℕ)
-  (so_far : Reached format vip all number offset left skips packets) → number < 4194304 → TakesRecord ms at format offset so_far.bytes bytes new
-  → Reached format vip all (number + 1) (offset + (16 + length bytes)) new
-      (skips ++ skip_of (number + 1) (seen format.link bytes (vip ∷ []))) (packets ++ packet_of (number + 1) (seen format.link bytes (vip ∷ [])))
+    (so_far : Reached format vip all number offset left skips packets) → number < 4194304 → TakesRecord ms at format offset so_far.bytes bytes new
+    → Reached format vip all (number + 1) (offset + (16 + length bytes)) new
+    (skips ++ skip_of (number + 1) (seen format.link bytes (vip ∷ []))) (packets ++ packet_of (number + 1) (seen format.link bytes (vip ∷ [])))
 reached_more {format} {vip} {all} {number} {offset} {left} {new} {skips} {packets} {bytes} ms at so_far below taken = more so_far.room refl
   where
     rest : List ℕ
     rest = rest_at format so_far.bytes
+
     more : (room : ℕ) → so_far.room ≡ room → Reached format vip all (number + 1) (offset + (16 + length bytes)) new
-      (skips ++ skip_of (number + 1) (seen format.link bytes (vip ∷ []))) (packets ++ packet_of (number + 1) (seen format.link bytes (vip ∷ [])))
+        (skips ++ skip_of (number + 1) (seen format.link bytes (vip ∷ []))) (packets ++ packet_of (number + 1) (seen format.link bytes (vip ∷ [])))
     more zero none = absurd (omega (arith, so_far.room_is, none))
     more (suc room) is =
         let step : records_from format so_far.room offset so_far.bytes ≡ with_frame (record { ms = ms; bytes = bytes }) (records_from format room (offset + (16 + length bytes)) rest) =
-              ap (λ r. records_from format r offset so_far.bytes) is ∙ records_go_on format room offset ms at so_far.bytes bytes new taken in
+        ap (λ r. records_from format r offset so_far.bytes) is ∙ records_go_on format room offset ms at so_far.bytes bytes new taken in
         record {
           room = room;
           bytes = rest;
@@ -70,10 +71,10 @@ reached_more {format} {vip} {all} {number} {offset} {left} {new} {skips} {packet
 
 -- one record more, as the code has it
 pub reached_kept : {format : Format} {vip : ℕ × ℕ} {all : Records} {number offset : ℕ} {left new : Option (List ℕ)} {skips : List (ℕ × Skip)} {packets : List Packet} {bytes : List ℕ} (ms at : ℕ)
-  (s : Seen) (offset' : ℕ) (skips' : List (ℕ × Skip)) (packets' : List Packet)
-  (so_far : Reached format vip all number offset left skips packets) → number < 4194304 → TakesRecord ms at format offset so_far.bytes bytes new
-  → s ≡ seen format.link bytes (vip ∷ []) → offset' ≡ offset + (16 + length bytes) → skips' ≡ skips ++ skip_of (number + 1) s → packets' ≡ packets ++ packet_of (number + 1) s
-  → Reached format vip all (number + 1) offset' new skips' packets'
+    (s : Seen) (offset' : ℕ) (skips' : List (ℕ × Skip)) (packets' : List Packet)
+    (so_far : Reached format vip all number offset left skips packets) → number < 4194304 → TakesRecord ms at format offset so_far.bytes bytes new
+    → s ≡ seen format.link bytes (vip ∷ []) → offset' ≡ offset + (16 + length bytes) → skips' ≡ skips ++ skip_of (number + 1) s → packets' ≡ packets ++ packet_of (number + 1) s
+    → Reached format vip all (number + 1) offset' new skips' packets'
 reached_kept {format} {vip} {all} {number} {offset} {left} {new} {skips} {packets} {bytes} ms at s offset' skips' packets' so_far below taken sees moved kept_skips kept_packets =
     subst (λ o. Reached format vip all (number + 1) o new skips' packets') (sym moved)
     (subst (λ k. Reached format vip all (number + 1) (offset + (16 + length bytes)) new k packets') (sym (kept_skips ∙ ap (λ t. skips ++ skip_of (number + 1) t) sees))
@@ -104,7 +105,7 @@ no_whole number (TooLong offset size) other = tt
 
 -- the last of the records
 last_step : (room number : ℕ) (format : Format) (offset : ℕ) (bytes : List ℕ) (next : Next) → room + number ≡ 4194304 → next_at format offset bytes ≡ next → NoMore number next
-  → records_from format room offset bytes ≡ ended next
+    → records_from format room offset bytes ≡ ended next
 unfolding records_from
 last_step zero number format offset bytes next sum e no_more = ap ended e
 last_step (suc room) number format offset bytes (Whole ms at) sum e no_more = absurd (omega arith)
@@ -115,9 +116,9 @@ last_step (suc room) number format offset bytes (TooLong at size) sum e no_more 
 
 -- after the last record
 reached_last : {format : Format} {vip : ℕ × ℕ} {xs : List ℕ} {number offset : ℕ} {left new : Option (List ℕ)} {skips : List (ℕ × Skip)} {packets : List Packet} (next : Next)
-  (so_far : Reached format vip (records_behind format xs) number offset left skips packets)
-  → NoMore number next → next_at format offset so_far.bytes ≡ next → (ending_of next ≡ None → new ≡ Some [])
-  → Keeps format vip xs new skips packets (ending_of next)
+    (so_far : Reached format vip (records_behind format xs) number offset left skips packets)
+    → NoMore number next → next_at format offset so_far.bytes ≡ next → (ending_of next ≡ None → new ≡ Some [])
+    → Keeps format vip xs new skips packets (ending_of next)
 reached_last {format} {vip} {xs} {number} {offset} {left} {new} {skips} {packets} next so_far no_more e all =
     let step = last_step so_far.room number format offset so_far.bytes next so_far.room_is e no_more in
     record {
@@ -129,9 +130,9 @@ reached_last {format} {vip} {xs} {number} {offset} {left} {new} {skips} {packets
 
 -- what comes last, as it was answered
 kept_last : {format : Format} {vip : ℕ × ℕ} {xs : List ℕ} (bytes : List ℕ) {number offset : ℕ} {left new : Option (List ℕ)} {skips : List (ℕ × Skip)} {packets : List Packet} (next : Next)
-  (so_far : Reached format vip (records_behind format xs) number offset left skips packets)
-  → NoMore number next → Answers next format offset so_far.bytes bytes new → (next ≡ ReadFault → ⊥)
-  → Keeps format vip xs new skips packets (ending_of next)
+    (so_far : Reached format vip (records_behind format xs) number offset left skips packets)
+    → NoMore number next → Answers next format offset so_far.bytes bytes new → (next ≡ ReadFault → ⊥)
+    → Keeps format vip xs new skips packets (ending_of next)
 kept_last bytes (Whole ms at) so_far no_more answered sound = reached_last (Whole ms at) so_far no_more answered.next (λ none. absurd cc)
 kept_last bytes End so_far no_more answered sound = reached_last End so_far no_more answered.0 (λ none. answered.1)
 kept_last bytes (Truncated at) so_far no_more answered sound = reached_last (Truncated at) so_far no_more answered.0 (λ none. absurd cc)
@@ -140,8 +141,8 @@ kept_last bytes (TooLong at size) so_far no_more answered sound = reached_last (
 
 -- the end of reading
 pub reads_on : {format : Format} {vip : ℕ × ℕ} (xs bytes : List ℕ) {number offset : ℕ} {left : Option (List ℕ)} (new : Option (List ℕ)) {skips : List (ℕ × Skip)} {packets : List Packet} (r : Reading) (next : Next)
-  (so_far : Reached format vip (records_behind format xs) number offset left skips packets)
-  → NoMore number next → Answers next format offset so_far.bytes bytes new → EndsWith r next skips packets → ReadsOn r format vip xs new
+    (so_far : Reached format vip (records_behind format xs) number offset left skips packets)
+    → NoMore number next → Answers next format offset so_far.bytes bytes new → EndsWith r next skips packets → ReadsOn r format vip xs new
 reads_on {format} {vip} xs bytes {number} {offset} {left} new {skips} {packets} (reading.Read captured) next so_far no_more answered ends =
     subst (λ k. Keeps format vip xs new k captured.packets.items captured.ending) (sym ends.0)
     (subst (λ k. Keeps format vip xs new skips k captured.ending) (sym ends.1)

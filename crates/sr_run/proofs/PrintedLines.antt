@@ -9,11 +9,11 @@ use Rattle.sr_text.specs.LineText.{line_text, skip_text}
 use Rattle.sr_run.specs.One.{packet_line, packet_lines}
 
 pub skips_step : (skips : List (ℕ × Skip)) (i : ℕ) → i < length skips
-  → flat_map skip_text (drop i skips) ≡ skip_text (get_or skips i (0, NotIpv4)) ++ flat_map skip_text (drop (i + 1) skips)
+    → flat_map skip_text (drop i skips) ≡ skip_text (get_or skips i (0, NotIpv4)) ++ flat_map skip_text (drop (i + 1) skips)
 skips_step skips i below = at_drop_more (flat_map skip_text) skips i (0, NotIpv4) below
 
 pub packets_step : (servers tick : ℕ) (packets : List Packet) (i : ℕ) (packet : Packet) → i < length packets → packet ≡ get_or packets i packet
-  → flat_map line_text (packet_lines servers tick (drop i packets))
+    → flat_map line_text (packet_lines servers tick (drop i packets))
     ≡ line_text (packet_line servers tick packet) ++ flat_map line_text (packet_lines servers (tick + 2) (drop (i + 1) packets))
 packets_step servers tick packets i packet below here =
     at_drop_more (λ left. flat_map line_text (packet_lines servers tick left)) packets i packet below

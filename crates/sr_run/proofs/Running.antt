@@ -16,26 +16,29 @@ use Rattle.sr_run.specs.Run.{Answers, EndsPrinting, refusal_of, refusal_in, prin
 
 -- a refused header
 pub answers_refused : (vip : ℕ × ℕ) (servers : ℕ) (xs : List ℕ) (left old : Option (List ℕ)) (why : CaptureRefusal) (refused : BeginRefusal)
-  → header_of xs ≡ Err refused → why ≡ header_refusal refused → Answers (Capture why) (One vip servers) xs left old old
+    → header_of xs ≡ Err refused → why ≡ header_refusal refused → Answers (Capture why) (One vip servers) xs left old old
 unfolding refusal_of printed
-answers_refused vip servers xs left old why refused header is =
-    (ap (λ h. refusal_in h (drop 24 xs)) header ∙ ap Some (sym is),
-     subst (λ t. Adds old old t) (sym (ap (λ h. printed_in h vip servers (drop 24 xs)) header)) (adds_nothing old))
+answers_refused vip servers xs left old why refused header is = (
+  ap (λ h. refusal_in h (drop 24 xs)) header ∙ ap Some (sym is),
+  subst (λ t. Adds old old t) (sym (ap (λ h. printed_in h vip servers (drop 24 xs)) header)) (adds_nothing old),
+)
 
 -- a capture that was read, and what was printed of it
 pub answers_read : (vip : ℕ × ℕ) (servers : ℕ) (xs : List ℕ) (left old new : Option (List ℕ)) (status : Status) (captured : Captured) (format : Format)
-  → header_of xs ≡ Ok format → Keeps format vip (drop 24 xs) left captured.skips.items captured.packets.items captured.ending
-  → EndsPrinting status captured.ending (one_text servers captured.skips.items captured.packets.items) old new → Answers status (One vip servers) xs left old new
+    → header_of xs ≡ Ok format → Keeps format vip (drop 24 xs) left captured.skips.items captured.packets.items captured.ending
+    → EndsPrinting status captured.ending (one_text servers captured.skips.items captured.packets.items) old new → Answers status (One vip servers) xs left old new
 unfolding refusal_of printed
 answers_read vip servers xs left old new status captured format header keeps ends = by_status status ends
   where
     refusal : refusal_of (One vip servers) xs ≡ captured.ending
     refusal = ap (λ h. refusal_in h (drop 24 xs)) header ∙ sym keeps.ending_is
+
     text : one_text servers captured.skips.items captured.packets.items ≡ printed (One vip servers) xs
     text =
         ap (λ k. one_text servers k captured.packets.items) keeps.skips_are
         ∙ ap (λ k. one_text servers (skips_from format.link vip 1 (records_behind format (drop 24 xs)).frames) k) keeps.packets_are
         ∙ sym (ap (λ h. printed_in h vip servers (drop 24 xs)) header)
+
     by_status : (status : Status) → EndsPrinting status captured.ending (one_text servers captured.skips.items captured.packets.items) old new → Answers status (One vip servers) xs left old new
     by_status Done ends = (refusal ∙ ends.0, keeps.all ends.0, subst (λ t. Adds old new t) text ends.1)
     by_status Usage ends = absurd ends

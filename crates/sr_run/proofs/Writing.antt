@@ -1,27 +1,9 @@
--- Printing a text piece by piece.
-use Rattle.std.proofs.Common.{◌≡◌, ℕ, List, [], ◌++◌, Option, refl, subst, sym, ◌∙◌, append_assoc, append-nil}
+-- Printing a log in its four parts.
+use Rattle.std.proofs.Common.{List, ℕ, [], ◌++◌, Option, subst, append-nil}
 use Rattle.sr_io.specs.Sink.{Adds, AddsFront, Puts}
 use Rattle.sr_io.specs.declared.sink.Put.{Put}
 use Rattle.sr_io.specs.declared.sink.Put.TheVariants.{All, Failed}
-use Rattle.sr_io.proofs.Adding.{adds_nothing, adds_then, adds_front_then, adds_front_more, adds_front_then_more}
-
--- Something was taken since, and with the rest it is all the text.
-pub record Wrote (old now : Option (List ℕ)) (rest all : List ℕ) : Type 0 where
-  pub done : List ℕ
-  pub taken : Adds old now done
-  pub joined : done ++ rest ≡ all
-
-pub wrote_none : (old : Option (List ℕ)) (all : List ℕ) → Wrote old old all all
-wrote_none old all = record { done = []; taken = adds_nothing old; joined = refl }
-
-pub wrote_more : {old now new : Option (List ℕ)} {all : List ℕ} (x rest : List ℕ) → Wrote old now (x ++ rest) all → Adds now new x → Wrote old new rest all
-wrote_more x rest so_far more = record { done = so_far.done ++ x; taken = adds_then so_far.taken more; joined = append_assoc so_far.done x rest ∙ so_far.joined }
-
-pub wrote_failed : {old now new : Option (List ℕ)} {all : List ℕ} (x rest : List ℕ) → Wrote old now (x ++ rest) all → AddsFront now new x → AddsFront old new all
-wrote_failed {old} {now} {new} x rest so_far front = subst (λ t. AddsFront old new t) so_far.joined (adds_front_then_more x rest so_far.taken front)
-
-pub wrote_all : {old now : Option (List ℕ)} {all : List ℕ} → Wrote old now [] all → Adds old now all
-wrote_all {old} {now} so_far = subst (λ t. Adds old now t) (sym (append-nil so_far.done) ∙ so_far.joined) so_far.taken
+use Rattle.sr_io.proofs.Adding.{adds_then, adds_front_then, adds_front_more, adds_front_then_more}
 
 -- A log is printed as four parts: the head, the skipped records, the opening line, the packets' lines. Each may fail after those before it.
 pub fails_in_head : {a b : Option (List ℕ)} (head skips lines : List ℕ) → AddsFront a b head → AddsFront a b (head ++ (skips ++ lines))
@@ -31,21 +13,21 @@ pub fails_in_skips : {a b c : Option (List ℕ)} (head skips lines : List ℕ) �
 fails_in_skips head skips lines first front = adds_front_then_more skips lines first front
 
 pub fails_in_opening : {a b c d : Option (List ℕ)} (head skips opening lines : List ℕ) → Adds a b head → Adds b c skips → AddsFront c d opening
-  → AddsFront a d (head ++ (skips ++ (opening ++ lines)))
+    → AddsFront a d (head ++ (skips ++ (opening ++ lines)))
 fails_in_opening head skips opening lines first second front = adds_front_then (skips ++ (opening ++ lines)) first (adds_front_then_more opening lines second front)
 
 pub fails_in_packets : {a b c d e : Option (List ℕ)} (head skips opening lines : List ℕ) → Adds a b head → Adds b c skips → Adds c d opening → AddsFront d e lines
-  → AddsFront a e (head ++ (skips ++ (opening ++ lines)))
+    → AddsFront a e (head ++ (skips ++ (opening ++ lines)))
 fails_in_packets head skips opening lines first second third front =
     adds_front_then (skips ++ (opening ++ lines)) first (adds_front_then (opening ++ lines) second (adds_front_then lines third front))
 
 whole_log : {a b c d e : Option (List ℕ)} (head skips opening lines : List ℕ) → Adds a b head → Adds b c skips → Adds c d opening → Adds d e lines
-  → Adds a e (head ++ (skips ++ (opening ++ lines)))
+    → Adds a e (head ++ (skips ++ (opening ++ lines)))
 whole_log head skips opening lines first second third fourth = adds_then first (adds_then second (adds_then third fourth))
 
 -- all four parts, and then a flush
 pub flushed : {a b c d e : Option (List ℕ)} (f : Option (List ℕ)) (put : Put) (head skips opening lines : List ℕ) → Adds a b head → Adds b c skips → Adds c d opening → Adds d e lines → Puts put e f []
-  → Puts put a f (head ++ (skips ++ (opening ++ lines)))
+    → Puts put a f (head ++ (skips ++ (opening ++ lines)))
 flushed {a} {b} {c} {d} {e} f All head skips opening lines first second third fourth last =
     subst (λ t. Adds a f t) (append-nil (head ++ (skips ++ (opening ++ lines)))) (adds_then (whole_log head skips opening lines first second third fourth) last)
 flushed {a} {b} {c} {d} {e} f Failed head skips opening lines first second third fourth last =

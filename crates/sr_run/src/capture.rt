@@ -37,11 +37,7 @@ pub enum Reading {
 }
 
 /// Reads a whole capture, of which the packets to this virtual address are kept.
-pub(crate) fn read_capture<S: Source>(
-    alloc: Global,
-    vip: (u32, u16),
-    source: &mut S,
-) -> Reading
+pub(crate) fn read_capture<S: Source>(alloc: Global, vip: (u32, u16), source: &mut S) -> Reading
     ensures capture { (xs : List ℕ) → S.left source.old ≡ Some xs → Reads result vip xs (S.left source.new) }
     ensures few { IsFew result }
     ensures count { S.faults source.old ≤ S.faults source.new }

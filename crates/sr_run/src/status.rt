@@ -75,7 +75,9 @@ impl Status {
     {
         match *self {
             Status::Done => sink.write(b""),
-            Status::Usage => sink.write(b"silkroad: usage: one VIP SERVERS, replay SCRIPT, audit SCRIPT, make N PACKETS, demo N, steps SCRIPT SEED\n"),
+            Status::Usage => sink.write(
+                b"silkroad: usage: one VIP SERVERS, replay SCRIPT, audit SCRIPT, make N PACKETS, demo N, steps SCRIPT SEED\n",
+            ),
             Status::Capture(why) => capture_text(why, sink),
             Status::ReadFault => sink.write(b"silkroad: read fault\n"),
             Status::WriteFault => sink.write(b"silkroad: write fault\n"),

@@ -5,9 +5,9 @@ ghost use Rattle.sr_run.specs.Run.{Answers, WritesNothing};
 ghost use Rattle.sr_run.specs.declared.command.Command.{Command};
 ghost use Rattle.sr_run.specs.declared.status.Status.TheVariants.{Usage, ReadFault, WriteFault, Memory};
 
+use crate::Status;
 use crate::command::{Command, read_command};
 use crate::one::run_one;
-use crate::Status;
 use sr_io::{Gate, Shelf, Sink, Source};
 use std::alloc::Global;
 use std::thread::Threads;

@@ -24,8 +24,8 @@ loop-number-preserved g c =
     let format = ap (λ r. r.format) step.2 ∙ held.format in
     let moved : now.offset ≡ c.loop-number.reader.offset + (16 + length now.bytes) = omega (arith, ap (λ r. r.offset) step.2, step.1, held.offset, c.loop-number-test.true) in
     let sees : c.read-seen.result ≡ seen c.args.reader.format.link now.bytes (c.args.vip ∷ []) =
-          c.read-seen.ensures ∙ ap (λ link. seen link c.bytes.result.now (c.args.vip ∷ [])) (c.link.ensures ∙ ap (λ f. f.link) format)
-          ∙ ap (λ (bytes : List ℕ). seen c.args.reader.format.link bytes (c.args.vip ∷ [])) c.bytes.ensures in
+    c.read-seen.ensures ∙ ap (λ link. seen link c.bytes.result.now (c.args.vip ∷ [])) (c.link.ensures ∙ ap (λ f. f.link) format)
+    ∙ ap (λ (bytes : List ℕ). seen c.args.reader.format.link bytes (c.args.vip ∷ [])) c.bytes.ensures in
     record {
       going = ap (λ r. r.ended) step.2;
       format = format;
@@ -33,9 +33,9 @@ loop-number-preserved g c =
       few = omega (arith, c.keep.ensures.few, held.few);
       count = omega (arith, c.next.ensures.count, held.count);
       reached = λ xs e.
-        let so_far = held.reached xs e in
-        let taken = subst (λ f. TakesRecord c.in-Whole.ms c.in-Whole.offset f c.loop-number.reader.offset so_far.bytes now.bytes left) held.format (c.in-Whole.ensures.record held.going so_far.bytes so_far.left_is) in
-        reached_kept c.in-Whole.ms c.in-Whole.offset c.read-seen.result now.offset c.keep.new.skips.items c.keep.new.packets.items so_far c.loop-number-test.true taken sees moved c.in-Ok.ensures.skips c.in-Ok.ensures.packets;
+          let so_far = held.reached xs e in
+          let taken = subst (λ f. TakesRecord c.in-Whole.ms c.in-Whole.offset f c.loop-number.reader.offset so_far.bytes now.bytes left) held.format (c.in-Whole.ensures.record held.going so_far.bytes so_far.left_is) in
+          reached_kept c.in-Whole.ms c.in-Whole.offset c.read-seen.result now.offset c.keep.new.skips.items c.keep.new.packets.items so_far c.loop-number-test.true taken sees moved c.in-Ok.ensures.skips c.in-Ok.ensures.packets;
     }
 
 pub returns-in_default : goal.returns-in_default
@@ -45,14 +45,14 @@ returns-in_default g c =
     let now = c.next.new.self in
     record {
       capture = λ xs e.
-        let so_far = held.reached xs e in
-        let answered = subst (λ f. Answers c.next.result f c.loop-number.reader.offset so_far.bytes now.bytes left) held.format (c.next.ensures.record held.going so_far.bytes so_far.left_is) in
-        reads_on xs now.bytes left c.ended.result c.next.result so_far (no_whole c.loop-number.number c.next.result c.in_default.not-Whole) answered c.ended.ensures;
+          let so_far = held.reached xs e in
+          let answered = subst (λ f. Answers c.next.result f c.loop-number.reader.offset so_far.bytes now.bytes left) held.format (c.next.ensures.record held.going so_far.bytes so_far.left_is) in
+          reads_on xs now.bytes left c.ended.result c.next.result so_far (no_whole c.loop-number.number c.next.result c.in_default.not-Whole) answered c.ended.ensures;
       few = few_read c.ended.result c.next.result c.loop-number.skips.items c.loop-number.packets.items c.ended.ensures (omega (arith, held.few, c.loop-number-test.true));
       count = omega (arith, c.next.ensures.count, held.count);
       read_fault = λ fault.
-        let rose = c.next.ensures.read_fault held.going (fault_read c.ended.result c.next.result c.loop-number.skips.items c.loop-number.packets.items c.ended.ensures fault) in
-        omega (arith, rose, held.count);
+          let rose = c.next.ensures.read_fault held.going (fault_read c.ended.result c.next.result c.loop-number.skips.items c.loop-number.packets.items c.ended.ensures fault) in
+          omega (arith, rose, held.count);
     }
 
 pub returns-clause-capture : goal.returns-clause-capture

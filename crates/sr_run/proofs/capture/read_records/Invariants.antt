@@ -14,5 +14,5 @@ invariant-loop-number g l =
       few : length l.packets.items ≤ l.number;
       count : faults l.fn.source ≤ faults l.source;
       reached : (xs : List ℕ) → left l.fn.source ≡ Some xs
-        → Reached l.initial.reader.format l.vip (records_behind l.initial.reader.format xs) l.number l.reader.offset (left l.source) l.skips.items l.packets.items;
+          → Reached l.initial.reader.format l.vip (records_behind l.initial.reader.format xs) l.number l.reader.offset (left l.source) l.skips.items l.packets.items;
     }

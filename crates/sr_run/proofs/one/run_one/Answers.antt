@@ -10,7 +10,7 @@ pub returns-in-Read-clause-one : goal.returns-in-Read-clause-one
 returns-in-Read-clause-one g c = λ xs e.
     let read = c.in-Read.ensures.capture xs e in
     answers_read c.args.vip c.args.servers xs (g.S.Source.left c.read_capture.new.source) (g.K.Sink.taken c.args.sink.now) (g.K.Sink.taken c.print_captured.new.sink)
-      c.print_captured.result c.in-Read.captured read.0 read.1 read.2 c.print_captured.ensures.printed
+    c.print_captured.result c.in-Read.captured read.0 read.1 read.2 c.print_captured.ensures.printed
 
 pub returns-in-Read-clause-a_command : goal.returns-in-Read-clause-a_command
 returns-in-Read-clause-a_command g c = prints_a_command c.print_captured.result _ _ _ _ c.print_captured.ensures.printed

@@ -19,16 +19,16 @@ pub returns-in-Failed-print_opening-clause-bytes : goal.returns-in-Failed-print_
 unfolding one_text
 returns-in-Failed-print_opening-clause-bytes g c =
     fails_in_opening head_text (flat_map skip_text c.args.skips.now) (line_text opening_line) (flat_map line_text (packet_lines c.args.servers 2 c.args.packets.now))
-      c.in-All.ensures.bytes c.in-All-print_skips.ensures.bytes c.in-Failed-print_opening.ensures.bytes
+    c.in-All.ensures.bytes c.in-All-print_skips.ensures.bytes c.in-Failed-print_opening.ensures.bytes
 
 pub returns-in-Failed-print_packets-clause-bytes : goal.returns-in-Failed-print_packets-clause-bytes
 unfolding one_text
 returns-in-Failed-print_packets-clause-bytes g c =
     fails_in_packets head_text (flat_map skip_text c.args.skips.now) (line_text opening_line) (flat_map line_text (packet_lines c.args.servers 2 c.args.packets.now))
-      c.in-All.ensures.bytes c.in-All-print_skips.ensures.bytes c.in-All-print_opening.ensures.bytes c.in-Failed-print_packets.ensures.bytes
+    c.in-All.ensures.bytes c.in-All-print_skips.ensures.bytes c.in-All-print_opening.ensures.bytes c.in-Failed-print_packets.ensures.bytes
 
 pub returns-in-All-print_packets-clause-bytes : goal.returns-in-All-print_packets-clause-bytes
 unfolding one_text
 returns-in-All-print_packets-clause-bytes g c =
     flushed _ c.flush.result head_text (flat_map skip_text c.args.skips.now) (line_text opening_line) (flat_map line_text (packet_lines c.args.servers 2 c.args.packets.now))
-      c.in-All.ensures.bytes c.in-All-print_skips.ensures.bytes c.in-All-print_opening.ensures.bytes c.in-All-print_packets.ensures.bytes c.flush.ensures.bytes
+    c.in-All.ensures.bytes c.in-All-print_skips.ensures.bytes c.in-All-print_opening.ensures.bytes c.in-All-print_packets.ensures.bytes c.flush.ensures.bytes

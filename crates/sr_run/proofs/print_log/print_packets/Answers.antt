@@ -4,7 +4,7 @@ use Rattle.sr_text.specs.LineText.{line_text}
 use Rattle.sr_run.specs.One.{packet_line, packet_lines}
 use Rattle.sr_io.specs.Sink.{Adds, AddsFront}
 use Rattle.sr_run.proofs.PrintedLines.{packets_step}
-use Rattle.sr_run.proofs.Writing.{Wrote, wrote_more, wrote_failed}
+use Rattle.sr_io.proofs.Writing.{Wrote, wrote_more, wrote_failed}
 use Rattle.sr_run.proofs.print_log.print_packets.Goals as goal
 
 pub returns-in-Failed-clause-bytes : goal.returns-in-Failed-clause-bytes

@@ -2,7 +2,7 @@ use Rattle.std.proofs.Common.{◌≡◌, ◌+◌, ◌*◌, ◌≤◌, drop}
 use Rattle.std.specs.List.{flat_map}
 use Rattle.sr_text.specs.LineText.{line_text}
 use Rattle.sr_run.specs.One.{packet_lines}
-use Rattle.sr_run.proofs.Writing.{Wrote}
+use Rattle.sr_io.proofs.Writing.{Wrote}
 use Rattle.sr_run.proofs.print_log.print_packets.Given as goal
 
 abbrev pub invariant-loop-packet : goal.invariant-loop-packet

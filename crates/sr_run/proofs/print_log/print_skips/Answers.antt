@@ -2,7 +2,7 @@ use Rattle.std.proofs.Common.{◌+◌, drop, arith, subst}
 use Rattle.std.specs.List.{flat_map}
 use Rattle.sr_text.specs.LineText.{skip_text}
 use Rattle.sr_run.proofs.PrintedLines.{skips_step}
-use Rattle.sr_run.proofs.Writing.{Wrote, wrote_more, wrote_failed}
+use Rattle.sr_io.proofs.Writing.{Wrote, wrote_more, wrote_failed}
 use Rattle.sr_run.proofs.print_log.print_skips.Goals as goal
 
 pub returns-in-Failed-clause-bytes : goal.returns-in-Failed-clause-bytes

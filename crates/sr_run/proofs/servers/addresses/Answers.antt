@@ -15,11 +15,12 @@ returns-in-None c =
 pub loop-front-preserved : goal.loop-front-preserved
 loop-front-preserved c =
     let at = rw c.in-Some.is at (split_once_first 44 c.loop-front.rest.now c.split_once.result c.split_once.ensures.cases (lit< tt)) in
-    let parts = split_more c.loop-front.rest.now c.in-Some.front.now c.in-Some.back.now at.0 at.1 at.2 in
-    (search rules,
-     ap (λ known. prefixed known (addresses_of (slice_split (λ b. b == 44) c.in-Some.back.now))) c.in_ok-push-in-Some-address.ensures.items
-     ∙ sym (prefixed_more c.loop-front.known.items c.in-Some.front.now (slice_split (λ b. b == 44) c.in-Some.back.now) c.in-Some-address.a (sym c.address.ensures ∙ c.in-Some-address.is))
-     ∙ ap (λ ps. prefixed c.loop-front.known.items (addresses_of ps)) (sym parts) ∙ c.loop-front.invariant.1)
+    let parts = split_more c.loop-front.rest.now c.in-Some.front.now c.in-Some.back.now at.0 at.1 at.2 in (
+      search rules,
+      ap (λ known. prefixed known (addresses_of (slice_split (λ b. b == 44) c.in-Some.back.now))) c.in_ok-push-in-Some-address.ensures.items
+          ∙ sym (prefixed_more c.loop-front.known.items c.in-Some.front.now (slice_split (λ b. b == 44) c.in-Some.back.now) c.in-Some-address.a (sym c.address.ensures ∙ c.in-Some-address.is))
+          ∙ ap (λ ps. prefixed c.loop-front.known.items (addresses_of ps)) (sym parts) ∙ c.loop-front.invariant.1,
+    )
 
 pub returns-in-None-address : goal.returns-in-None-address
 returns-in-None-address c =
