@@ -22,6 +22,16 @@ pub struct Row<'a> {
 /// The words of the first run.
 pub const ONE: [&str; 3] = ["one", "192.0.2.1:80", "10.1.0.1:80"];
 
+/// What every log of `one` without skipped records begins with.
+pub const HEAD: &[u8] = b"silkroad 1\ngive 1 0 0 1\n";
+
+/// The log of a SYN alone.
+pub const OPENED: &[u8] =
+    b"silkroad 1\ngive 1 0 0 1\npacket 1 2 3 0 0/10.0.0.9:4000 open to 0 0 1\n";
+
+/// The log of the first run.
+pub const FIRST: &[u8] = b"silkroad 1\ngive 1 0 0 1\npacket 1 2 3 0 0/10.0.0.9:4000 open to 0 0 1\npacket 2 4 5 0 0/10.0.0.9:4000 data to 0 0 1\n";
+
 /// What came of a row.
 #[derive(Drop)]
 pub struct Played {
@@ -31,17 +41,38 @@ pub struct Played {
     pub output: Vec<u8>,
 }
 
-/// Plays the row.
-pub fn play<R: Threads + Sync>(rt: &R, alloc: Global, row: &Row) -> Result<Played, AllocError> {
-    let mut words = Vec::new(alloc);
-    for word in row.words {
-        words.push(String::from_str(alloc, word)?)?;
+/// The row of the command `one` over these bytes, in pieces of this size.
+pub fn row_of(input: &[u8], piece: usize) -> Row<'_> {
+    Row {
+        words: &ONE,
+        input,
+        piece,
+        read_fails: 0,
+        write_fails: 0,
     }
+}
+
+/// Plays the row.
+pub fn play<R: Threads + Sync>(rt: &R, alloc: Global, row: Row) -> Result<Played, AllocError> {
+    let words = owned(alloc, row.words)?;
     let input = Vec::from_slice(alloc, row.input)?;
-    let mut source = MemSource::new(input, row.piece.max(1), Vec::from_slice(alloc, &[row.read_fails])?);
+    let read_fails = Vec::from_slice(alloc, &[row.read_fails])?;
+    let write_fails = Vec::from_slice(alloc, &[row.write_fails])?;
+    let mut source = MemSource::new(input, row.piece.max(1), read_fails);
     let mut shelf = SureShelf::new(Vec::new(alloc));
-    let mut sink = MemSink::new(alloc, 65_536, Vec::from_slice(alloc, &[row.write_fails])?)?;
-    let status = run(rt, alloc, &words, &mut source, &mut shelf, &mut sink, &OpenGate);
+    let mut sink = MemSink::new(alloc, 65_536, write_fails)?;
+    let status = run(
+        rt, alloc, &words, &mut source, &mut shelf, &mut sink, &OpenGate,
+    );
     let output = Vec::from_slice(alloc, sink.bytes())?;
     Ok(Played { status, output })
+}
+
+// The words, each a text of its own.
+fn owned(alloc: Global, words: &[&str]) -> Result<Vec<String>, AllocError> {
+    let mut all = Vec::new(alloc);
+    for word in words {
+        all.push(String::from_str(alloc, word)?)?;
+    }
+    Ok(all)
 }

@@ -1,0 +1,35 @@
+//! Words that are no command.
+use crate::play::{Row, play};
+use sr_run::Status;
+use std::test::Fail;
+
+#[test]
+fn no_command(rt: HostRuntime) -> Result<(), Fail> {
+    let rows: [&[&str]; 12] = [
+        &[],
+        &["one"],
+        &["one", "192.0.2.1:80"],
+        &["one", "192.0.2.1:80", "10.1.0.1:80,10.1.0.1:80"],
+        &["one", "192.0.2.1:80", "10.1.0.1:80,"],
+        &["one", "192.0.2.1:80", ""],
+        &["one", "192.0.2.01:80", "10.1.0.1:80"],
+        &["one", "192.0.2.1:0", "10.1.0.1:80"],
+        &["one", "192.0.2.1:80", "10.1.0.1:80", "more"],
+        &["One", "192.0.2.1:80", "10.1.0.1:80"],
+        &["replay"],
+        &["replay", "-x"],
+    ];
+    for words in rows {
+        let row = Row {
+            words,
+            input: &[],
+            piece: 1,
+            read_fails: 0,
+            write_fails: 0,
+        };
+        let played = play(&rt, rt.alloc(), row)?;
+        assert_eq!(rt; played.status, Status::Usage, "{} words", words.len());
+        assert_eq!(rt; played.output.len(), 0);
+    }
+    Ok(())
+}
