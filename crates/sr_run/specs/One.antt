@@ -1,12 +1,18 @@
 -- What the command `one` prints: one pipe, one pool, every packet sent to the server that its key's hash picks.
 use Rattle.std.specs.Prelude.{ℕ, ◌+◌, List, [], ◌∷◌}
+use Rattle.std.specs.List.{range_with_len}
 use Rattle.sr_base.specs.declared.packet.Packet.{Packet}
 use Rattle.sr_frame.specs.declared.skip.Skip.{Skip}
 use Rattle.sr_hash.specs.Uses.{selected}
 use Rattle.sr_law.specs.declared.line.Line.{Line}
 use Rattle.sr_law.specs.declared.line.Line.TheVariants as lines
 use Rattle.sr_law.specs.declared.verdict.Verdict.TheVariants.{To}
+use Rattle.sr_law.specs.Pools.{VipPools}
 use Rattle.sr_text.specs.LineText.{log_text}
+
+-- the pools: the one virtual address has one pool, of all the servers in their order
+abbrev pub one_pools : ℕ → List VipPools
+one_pools servers = record { first = range_with_len 0 servers; given = [] } ∷ []
 
 -- the opening line: version 0 of the virtual address is its pool 1
 abbrev pub opening_line : Line

@@ -1,8 +1,13 @@
 -- What a run of the program does to what it reads and prints.
-use Rattle.std.specs.Prelude.{◌≡◌, ℕ, List, [], drop, Option, Some, None, Result, Ok, Err}
+use Rattle.std.specs.Prelude.{◌≡◌, ℕ, List, [], drop, Option, Some, None, Result, Ok, Err, IsTrue, slice_get}
 use Rattle.sr_io.specs.Sink.{Adds, AddsFront}
 use Rattle.sr_io.specs.declared.sink.Put.{Put}
 use Rattle.sr_io.specs.declared.sink.Put.TheVariants as put
+use Rattle.sr_law.specs.declared.line.Line.{Line}
+use Rattle.sr_law.specs.Pools.{VipPools}
+use Rattle.sr_law.specs.Same.{meets_same}
+use Rattle.sr_law.specs.Server.{meets_server}
+use Rattle.sr_law.specs.Ticks.{lines_before}
 use Rattle.sr_pcap.specs.declared.begin_refusal.BeginRefusal.{BeginRefusal}
 use Rattle.sr_pcap.specs.declared.format.Format.{Format}
 use Rattle.sr_pcap.specs.Format.{header_of}
@@ -12,7 +17,7 @@ use Rattle.sr_run.specs.declared.status.CaptureRefusal.{CaptureRefusal}
 use Rattle.sr_run.specs.declared.status.Status.{Status}
 use Rattle.sr_run.specs.declared.status.Status.TheVariants.{Done, Usage, Capture, ReadFault, WriteFault, Memory}
 use Rattle.sr_run.specs.Capture.{records_behind, ending_of, packets_from, skips_from, header_refusal}
-use Rattle.sr_run.specs.One.{one_text}
+use Rattle.sr_run.specs.One.{one_lines, one_pools, one_text}
 
 -- the refusal of a capture with this header, if it is refused
 abbrev pub refusal_in : Result Format BeginRefusal → List ℕ → Option CaptureRefusal
@@ -26,6 +31,11 @@ printed_in (Ok format) vip servers bytes =
     one_text servers (skips_from format.link vip 1 frames) (packets_from format.link vip 1 frames)
 printed_in (Err why) vip servers bytes = []
 
+-- the lines that a command prints of a capture with this header
+abbrev pub lines_in : Result Format BeginRefusal → ℕ × ℕ → ℕ → List ℕ → List Line
+lines_in (Ok format) vip servers bytes = one_lines servers (packets_from format.link vip 1 (records_behind format bytes).frames)
+lines_in (Err why) vip servers bytes = []
+
 -- why a command refuses these bytes, if it does
 unfoldable pub refusal_of : Command → List ℕ → Option CaptureRefusal
 refusal_of (One vip servers) bytes = refusal_in (header_of bytes) (drop 24 bytes)
@@ -33,6 +43,23 @@ refusal_of (One vip servers) bytes = refusal_in (header_of bytes) (drop 24 bytes
 -- what a command prints of these bytes: of a capture that is refused in a record the whole records before it
 unfoldable pub printed : Command → List ℕ → List ℕ
 printed (One vip servers) bytes = printed_in (header_of bytes) vip servers (drop 24 bytes)
+
+-- the lines among what a command prints of these bytes
+unfoldable pub lines_of : Command → List ℕ → List Line
+lines_of (One vip servers) bytes = lines_in (header_of bytes) vip servers (drop 24 bytes)
+
+-- the pools of a command, by virtual address and number
+abbrev pub pools_of : Command → List VipPools
+pools_of (One vip servers) = one_pools servers
+
+-- After these lines a line keeps to its connection's server: while the connection is open the line has its opening's pool, and its server is
+-- the one that the key's hash picks from that pool.
+abbrev pub KeepsServer : List VipPools → List Line → Line → Type 0
+KeepsServer pools before line = IsTrue (meets_same before line) × IsTrue (meets_server pools before line)
+
+-- each of these lines does, after those before it
+abbrev pub KeepServers : List VipPools → List Line → Type 0
+KeepServers pools lines = (i : ℕ) (line : Line) → slice_get lines i ≡ Some line → KeepsServer pools (lines_before i lines) line
 
 -- What each status says of a command over these bytes: what is left of them, and what the sink took.
 abbrev pub Answers : Status → Command → List ℕ → Option (List ℕ) → Option (List ℕ) → Option (List ℕ) → Type 0

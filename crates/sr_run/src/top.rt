@@ -1,7 +1,7 @@
 ghost use Rattle.std.specs.Prelude.{◌≡◌, ◌⊎◌, List, ℕ, Some, None, map, string_bytes};
 ghost use Rattle.sr_io.specs.Faults.{Rose};
 ghost use Rattle.sr_run.specs.Command.{command_of};
-ghost use Rattle.sr_run.specs.Run.{Answers, WritesNothing};
+ghost use Rattle.sr_run.specs.Run.{Answers, KeepServers, WritesNothing, lines_of, pools_of};
 ghost use Rattle.sr_run.specs.declared.command.Command.{Command};
 ghost use Rattle.sr_run.specs.declared.status.Status.TheVariants.{Usage, ReadFault, WriteFault, Memory};
 
@@ -30,6 +30,9 @@ pub fn run<R: Threads + Sync, S: Source, F: Shelf, K: Sink, G: Gate + Sync>(
     // What the command does, where the source tells its bytes.
     ensures command { (c : Command) (xs : List ℕ) → command_of (map string_bytes words.now) ≡ Some c → S.left source.old ≡ Some xs
         → Answers result c xs (S.left source.new) (K.taken sink.old) (K.taken sink.new) }
+
+    // No line among what it prints leaves its connection's server.
+    ensures servers { (c : Command) (xs : List ℕ) → command_of (map string_bytes words.now) ≡ Some c → KeepServers (pools_of c) (lines_of c xs) }
 
     // What holds of every source.
     ensures quiet { WritesNothing result (K.taken sink.old) (K.taken sink.new) }
