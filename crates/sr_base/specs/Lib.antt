@@ -1,3 +1,9 @@
+pub mod Fields
+pub mod FullWord
 pub mod Key
 pub mod Layout
 pub mod Limit
+pub mod RingWord
+pub mod RowHead
+pub mod SlotWord
+pub mod VipWord
