@@ -7,3 +7,4 @@ pub mod RingWord
 pub mod RowHead
 pub mod SlotWord
 pub mod VipWord
+pub mod WordName

@@ -1,7 +1,8 @@
-ghost use Rattle.std.specs.Prelude.{◌≡◌, MatchResult};
+ghost use Rattle.std.specs.Prelude.{◌≡◌, ◌↔◌, IsTrue, MatchResult};
 ghost use Rattle.sr_base.specs.Limit.{between, power_up_to, table_limit_of, other_limit_of, limit_of};
+ghost use Rattle.sr_base.specs.WordName.{filter_words, HasPlace, HasWord};
 
-use crate::Shape;
+use crate::{Place, Shape, WordName};
 use std::marker::Model;
 
 /// The first number of a layout that is outside its range, in the order of the numbers in a script.
@@ -94,6 +95,43 @@ impl Layout {
     {
         self.servers
     }
+
+    /// Whether it has a word of this name.
+    pub fn has(&self, name: WordName) -> bool
+        ensures { IsTrue result ↔ HasWord self.now name }
+    {
+        let shape = &self.shape;
+        match name {
+            WordName::Tick => true,
+            WordName::Note { pipe } => pipe < shape.pipes,
+            WordName::Ring { pipe, cell } => pipe < shape.pipes && cell < shape.ring,
+            WordName::Slot { way, bucket, cell } => has_place(shape, Place::Slot { way, bucket, cell }),
+            WordName::Full { row } => has_place(shape, Place::Row { row }),
+            WordName::Hit { place } => has_place(shape, place),
+            WordName::Vip { vip } => vip < self.vips,
+            WordName::Head { vip, version } => vip < self.vips && version < shape.versions,
+            WordName::Member { vip, version, index } => vip < self.vips && version < shape.versions && index < shape.pool_max,
+            WordName::Down { server } => server < self.servers,
+            WordName::Filter { index } => index < filter_words(shape),
+        }
+    }
+}
+
+// Whether the tables have this cell or row.
+fn has_place(shape: &Shape, place: Place) -> bool
+    ensures { IsTrue result ↔ HasPlace shape.now place }
+{
+    match place {
+        Place::Slot { way, bucket, cell } => 1 <= way && way <= 2 && bucket < shape.buckets && cell < 4,
+        Place::Row { row } => row < shape.full_rows,
+    }
+}
+
+// How many words the filter has.
+fn filter_words(shape: &Shape) -> u32
+    ensures { result ≡ filter_words shape.now }
+{
+    (shape.filter_bits / 64).max(1)
 }
 
 // Whether a number is in a range, both ends included.

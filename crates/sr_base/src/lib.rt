@@ -16,6 +16,7 @@ mod shape;
 mod slot_word;
 mod version;
 mod vip_word;
+mod word_name;
 
 pub use change::{Change, What};
 pub use full_word::{FullWord, full_unpacks};
@@ -31,3 +32,4 @@ pub use shape::Shape;
 pub use slot_word::{SlotWord, slot_unpacks};
 pub use version::Version;
 pub use vip_word::{Phase, VipWord, vip_unpacks};
+pub use word_name::WordName;
