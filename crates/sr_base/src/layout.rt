@@ -1,5 +1,6 @@
 ghost use Rattle.std.specs.Prelude.{◌≡◌, ◌↔◌, IsTrue, MatchResult};
 ghost use Rattle.sr_base.specs.Limit.{between, power_up_to, table_limit_of, other_limit_of, limit_of};
+ghost use Rattle.sr_base.specs.Layout.{IsLayout};
 ghost use Rattle.sr_base.specs.WordName.{filter_words, HasPlace, HasWord};
 
 use crate::{Place, Shape, WordName};
@@ -210,4 +211,11 @@ fn first_other_limit(shape: &Shape, vips: u8, servers: u32) -> Option<ShapeLimit
         return Some(ShapeLimit::Servers);
     }
     None
+}
+
+/// The ranges of a layout's numbers.
+pub fn layout_ranges(layout: &Layout)
+    ensures { IsLayout layout.now }
+{
+    let _ = &layout.shape;
 }
