@@ -1,7 +1,7 @@
 ghost use Rattle.std.specs.Prelude.{◌≡◌, ◌↔◌, IsTrue, MatchResult};
 ghost use Rattle.sr_base.specs.Limit.{between, power_up_to, table_limit_of, other_limit_of, limit_of};
 ghost use Rattle.sr_base.specs.Layout.{IsLayout};
-ghost use Rattle.sr_base.specs.WordName.{filter_words, HasPlace, HasWord};
+ghost use Rattle.sr_base.specs.WordName.{filter_words, HasPlace, HasWord, NamesApart, EachPlaceNamed, StoresApart};
 
 use crate::{Place, Shape, WordName};
 use std::marker::Model;
@@ -218,4 +218,13 @@ pub fn layout_ranges(layout: &Layout)
     ensures { IsLayout layout.now }
 {
     let _ = &layout.shape;
+}
+
+/// The law of the places: different names have different ones, each below the number of words has a name, and so a store at one name
+/// leaves the word of every other.
+pub fn words_stand_apart(layout: &Layout)
+    ensures apart { NamesApart layout.now }
+    ensures named { EachPlaceNamed layout.now }
+    ensures stores { StoresApart layout.now }
+{
 }
