@@ -195,3 +195,107 @@ names_apart l a b p q e = sym (name_at-place_of l a p) ∙ ap (name_at l) e ∙ 
 
 pub stores_apart : (l : LayoutView) → StoresApart l
 stores_apart l words a b x p q differ = get_or-set_other words (place_of l a) (place_of l b) x 0 (λ e. differ (names_apart l b a q p e))
+
+-- from this place on, so many names of the layout stand in order
+abbrev Named : LayoutView → ℕ → ℕ → (ℕ → WordName) → Type 0
+Named l start size names = (n : ℕ) → n < size → HasWord l (names n) × (place_of l (names n) ≡ start + n)
+
+-- the same for one name
+abbrev Stands : LayoutView → ℕ → WordName → Type 0
+Stands l n name = HasWord l name × (place_of l name ≡ n)
+
+joined : (l : LayoutView) (start size rest : ℕ) (here next : ℕ → WordName) → Named l start size here → Named l (start + size) rest next
+    → Named l start (size + rest) (part size here next)
+joined l start size rest here next a b n h =
+    elim (cases_lt n size) [
+      inl p ↦ let is = part-here size here next n p in subst (λ name. Stands l (start + n) name) (sym is) (a n p)
+    | inr p ↦
+        let k = n - size in
+        let e : size + k ≡ n = omega arith in
+        let is : part size here next n ≡ next k = ap (part size here next) (sym e) ∙ part-next size here next k in
+        let m : start + size + k ≡ start + n = omega arith in
+        subst (λ name. Stands l (start + n) name) (sym is) (subst (λ x. Stands l x (next k)) m (b k (omega arith)))
+    ]
+
+-- a number below so many rows, as its row and column
+row_of : (n w h : ℕ) → n < h * w → 0 < w → (n / w < h) × (n % w < w) × (n / w * w + n % w ≡ n)
+row_of n w h p q = (div_below n w h q p, mod_below n w q, div-add-mod' n w)
+
+-- a product with a part of 0 has no number below it
+factor : (n h w : ℕ) → n < h * w → 0 < w
+factor n h zero p = absurd (omega arith)
+factor n h (suc w) p = omega arith
+
+entry_stands : (s : Shape) (n : ℕ) → n < entries_of s → HasPlace s (entry_at s n) × (entry_number s (entry_at s n) ≡ n)
+entry_stands s n h =
+    elim (cases_lt n (cells_of s)) [
+      inl p ↦
+        let below : nat_lt n (cells_of s) ≡ true = grind (arith, nat_tests) in
+        let q = n / 4 in
+        let cut : q * 4 + n % 4 ≡ n = div-add-mod' n 4 in
+        let quarter : q < 2 * s.buckets = omega arith in
+        let row = row_of q s.buckets 2 quarter (factor q 2 s.buckets quarter) in
+        let way : 1 + q / s.buckets - 1 ≡ q / s.buckets = omega arith in
+        rw below ((omega arith, omega arith, row.1, omega arith), rw (way, row.2) cut)
+    | inr p ↦
+        let above : nat_lt n (cells_of s) ≡ false = grind (arith, nat_tests) in
+        rw above (omega arith, omega arith)
+    ]
+
+entry_words : (l : LayoutView) → Named l 0 (entries_of l.shape) (λ n. entry_word (entry_at l.shape n))
+entry_words l n h =
+    let has : (p : Place) → HasPlace l.shape p → HasWord l (entry_word p) = λ p. elim p as (λ p. HasPlace l.shape p → HasWord l (entry_word p)) [ place.Slot way bucket cell ↦ λ q. q | place.Row row ↦ λ q. q ] in
+    let at : (p : Place) → place_of l (entry_word p) ≡ entry_number l.shape p = λ p. elim p as (λ p. place_of l (entry_word p) ≡ entry_number l.shape p) [ place.Slot way bucket cell ↦ refl | place.Row row ↦ refl ] in
+    let e = entry_stands l.shape n h in
+    (has _ e.0, at _ ∙ e.1 ∙ omega arith)
+
+hit_words : (l : LayoutView) → Named l (entries_of l.shape) (entries_of l.shape) (λ n. Hit (entry_at l.shape n))
+hit_words l n h = let e = entry_stands l.shape n h in (e.0, ap (λ x. entries_of l.shape + x) e.1)
+
+pipe_stands : (l : LayoutView) (pipe cell : ℕ) → pipe < l.shape.pipes → cell < 1 + l.shape.ring → Stands l (pipe_start l.shape pipe + cell) (pipe_word pipe cell)
+pipe_stands l pipe zero p q = (p, omega arith)
+pipe_stands l pipe (suc cell) p q = ((p, omega arith), omega arith)
+
+pipe_words : (l : LayoutView) → Named l (pipes_start l.shape) (l.shape.pipes * (1 + l.shape.ring)) (pipe_word_at l.shape)
+pipe_words l n h =
+    let w = 1 + l.shape.ring in
+    let row = row_of n w l.shape.pipes h (omega arith) in
+    let m : pipe_start l.shape (n / w) + n % w ≡ pipes_start l.shape + n = omega (arith, row.2) in
+    subst (λ x. Stands l x (pipe_word_at l.shape n)) m (pipe_stands l (n / w) (n % w) row.0 row.1)
+
+pool_stands : (l : LayoutView) (vip version index : ℕ) → HasVersion l vip version → index < 1 + l.shape.pool_max
+    → Stands l (pool_start l vip version + index) (pool_word vip version index)
+pool_stands l vip version zero h q = (h, omega arith)
+pool_stands l vip version (suc index) h q = ((h, omega arith), omega arith)
+
+pool_words : (l : LayoutView) → Named l (pools_start l) (l.vips * l.shape.versions * (1 + l.shape.pool_max)) (pool_word_at l)
+pool_words l n h =
+    let w = 1 + l.shape.pool_max in
+    let row = row_of n w (l.vips * l.shape.versions) h (omega arith) in
+    let head = row_of (n / w) l.shape.versions l.vips row.0 (factor (n / w) l.vips l.shape.versions row.0) in
+    let m : pool_start l (n / w / l.shape.versions) (n / w % l.shape.versions) + n % w ≡ pools_start l + n = rw head.2 (omega (arith, row.2)) in
+    subst (λ x. Stands l x (pool_word_at l n)) m (pool_stands l _ _ (n % w) (head.0, head.1) row.1)
+
+-- all of them, from the last to the first
+named_pools : (l : LayoutView) → Named l (pools_start l) (l.vips * l.shape.versions * (1 + l.shape.pool_max) + l.servers) (at_pools l)
+named_pools l = joined l _ _ _ _ _ (pool_words l) (λ n h. (h, refl))
+
+named_vips : (l : LayoutView) → Named l (vips_start l.shape) (l.vips + (l.vips * l.shape.versions * (1 + l.shape.pool_max) + l.servers)) (at_vips l)
+named_vips l = joined l _ _ _ _ _ (λ n h. (h, refl)) (named_pools l)
+
+named_pipes : (l : LayoutView) → Named l (pipes_start l.shape) (l.shape.pipes * (1 + l.shape.ring) + (l.vips + (l.vips * l.shape.versions * (1 + l.shape.pool_max) + l.servers))) (at_pipes l)
+named_pipes l = joined l _ _ _ _ _ (pipe_words l) (named_vips l)
+
+named_filter : (l : LayoutView) → Named l (filter_start l.shape) (filter_words l.shape + (l.shape.pipes * (1 + l.shape.ring) + (l.vips + (l.vips * l.shape.versions * (1 + l.shape.pool_max) + l.servers)))) (at_filter l)
+named_filter l = joined l _ _ _ _ _ (λ n h. (h, refl)) (named_pipes l)
+
+pub each_place_named : (l : LayoutView) → EachPlaceNamed l
+each_place_named l n h =
+    let e = entries_of l.shape in
+    let rest = filter_words l.shape + (l.shape.pipes * (1 + l.shape.ring) + (l.vips + (l.vips * l.shape.versions * (1 + l.shape.pool_max) + l.servers))) in
+    let filter : Named l (e + e + 1) rest (at_filter l) = λ n h. let f = named_filter l n h in (f.0, f.1 ∙ omega arith) in
+    let tick : Named l (e + e) (1 + rest) (at_tick l) = joined l (e + e) 1 rest _ _ (λ n h. (tt, omega arith)) filter in
+    let hits : Named l (0 + e) (e + (1 + rest)) (at_hits l) = λ n h. let f = joined l e e (1 + rest) _ _ (hit_words l) tick n h in (f.0, f.1 ∙ omega arith) in
+    let all = joined l 0 e (e + (1 + rest)) _ _ (entry_words l) hits in
+    let here = all n (omega arith) in
+    (_, here.0, here.1 ∙ omega arith)
