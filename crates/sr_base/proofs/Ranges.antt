@@ -1,7 +1,7 @@
 -- The ranges of a layout's numbers, out of its limits.
-use Rattle.std.proofs.Common.{◌≡◌, ℕ, ◌≤◌, Bool, true, false, ◌&&◌, Option, Some, None, refl, zero, suc, lit<, arith}
+use Rattle.std.proofs.Common.{◌≡◌, ℕ, ◌+◌, ◌*◌, ◌<◌, ◌≤◌, mul_comm, Bool, true, false, ◌&&◌, Option, Some, None, refl, zero, suc, lit<, arith}
 use Rattle.std.proofs.lemmas.Bool.Decides.{nat_tests}
-use Rattle.std.proofs.lemmas.Nat.{ones-le}
+use Rattle.std.proofs.lemmas.Nat.{mul-add-lt, mul-le, ones-le, row_fits}
 use Rattle.std.specs.Int.{is_power_of_two}
 use Rattle.sr_base.specs.Layout.{LayoutView, IsLayout}
 use Rattle.sr_base.specs.Limit.{between, power_up_to, where_in_range, table_limit_of, other_limit_of, or_limit, limit_of}
@@ -60,3 +60,22 @@ layout_ranges s vips servers e =
       vips = in_range _ _ _ all_vips.0;
       servers = in_range _ _ _ all_servers.0;
     }
+
+-- the pipes' words are no more than these
+pub pipes_most : (s : Shape) (vips servers : ℕ) → limit_of s vips servers ≡ None → (s.pipes * (1 + s.ring) ≤ 1048592) × (s.ring ≤ 65536)
+pipes_most s vips servers e =
+    let h = layout_ranges s vips servers e in
+    (mul-le s.pipes (1 + s.ring) 16 65537 h.pipes.1 (omega arith), h.ring.1)
+
+-- the pools' words are no more than these
+pub pools_most : (s : Shape) (vips servers : ℕ) → limit_of s vips servers ≡ None
+    → (vips * s.versions * (1 + s.pool_max) ≤ 262144) × (vips * s.versions ≤ 1024) × (s.pool_max ≤ 255)
+pools_most s vips servers e =
+    let h = layout_ranges s vips servers e in
+    let rows = mul-le vips s.versions 16 64 h.vips.1 h.versions.1 in
+    (mul-le (vips * s.versions) (1 + s.pool_max) 1024 256 rows (omega arith), rows, h.pool_max.1)
+
+-- a version's words end where those of all the pools do, or before
+pub pool_fits : (vip version vips versions w : ℕ) → vip < vips → version < versions → (vip * versions + version) * w + w ≤ vips * versions * w
+pool_fits vip version vips versions w p q =
+    row_fits (vip * versions + version) w (vips * versions) w (rw (mul_comm vips versions) (mul-add-lt vip versions version vips p q)) (omega arith)

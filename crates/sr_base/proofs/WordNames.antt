@@ -208,13 +208,13 @@ joined : (l : LayoutView) (start size rest : ℕ) (here next : ℕ → WordName)
     → Named l start (size + rest) (part size here next)
 joined l start size rest here next a b n h =
     elim (cases_lt n size) [
-      inl p ↦ let is = part-here size here next n p in subst (λ name. Stands l (start + n) name) (sym is) (a n p)
-    | inr p ↦
-        let k = n - size in
-        let e : size + k ≡ n = omega arith in
-        let is : part size here next n ≡ next k = ap (part size here next) (sym e) ∙ part-next size here next k in
-        let m : start + size + k ≡ start + n = omega arith in
-        subst (λ name. Stands l (start + n) name) (sym is) (subst (λ x. Stands l x (next k)) m (b k (omega arith)))
+      | inl p ↦ let is = part-here size here next n p in subst (λ name. Stands l (start + n) name) (sym is) (a n p)
+      | inr p ↦
+          let k = n - size in
+          let e : size + k ≡ n = omega arith in
+          let is : part size here next n ≡ next k = ap (part size here next) (sym e) ∙ part-next size here next k in
+          let m : start + size + k ≡ start + n = omega arith in
+          subst (λ name. Stands l (start + n) name) (sym is) (subst (λ x. Stands l x (next k)) m (b k (omega arith)))
     ]
 
 -- a number below so many rows, as its row and column
@@ -229,17 +229,17 @@ factor n h (suc w) p = omega arith
 entry_stands : (s : Shape) (n : ℕ) → n < entries_of s → HasPlace s (entry_at s n) × (entry_number s (entry_at s n) ≡ n)
 entry_stands s n h =
     elim (cases_lt n (cells_of s)) [
-      inl p ↦
-        let below : nat_lt n (cells_of s) ≡ true = grind (arith, nat_tests) in
-        let q = n / 4 in
-        let cut : q * 4 + n % 4 ≡ n = div-add-mod' n 4 in
-        let quarter : q < 2 * s.buckets = omega arith in
-        let row = row_of q s.buckets 2 quarter (factor q 2 s.buckets quarter) in
-        let way : 1 + q / s.buckets - 1 ≡ q / s.buckets = omega arith in
-        rw below ((omega arith, omega arith, row.1, omega arith), rw (way, row.2) cut)
-    | inr p ↦
-        let above : nat_lt n (cells_of s) ≡ false = grind (arith, nat_tests) in
-        rw above (omega arith, omega arith)
+      | inl p ↦
+          let below : nat_lt n (cells_of s) ≡ true = grind (arith, nat_tests) in
+          let q = n / 4 in
+          let cut : q * 4 + n % 4 ≡ n = div-add-mod' n 4 in
+          let quarter : q < 2 * s.buckets = omega arith in
+          let row = row_of q s.buckets 2 quarter (factor q 2 s.buckets quarter) in
+          let way : 1 + q / s.buckets - 1 ≡ q / s.buckets = omega arith in
+          rw below ((omega arith, omega arith, row.1, omega arith), rw (way, row.2) cut)
+      | inr p ↦
+          let above : nat_lt n (cells_of s) ≡ false = grind (arith, nat_tests) in
+          rw above (omega arith, omega arith)
     ]
 
 entry_words : (l : LayoutView) → Named l 0 (entries_of l.shape) (λ n. entry_word (entry_at l.shape n))
