@@ -1,11 +1,12 @@
 -- The name of the word at each place. So different names have different places, and each place below the number of words is that of a name.
-use Rattle.std.proofs.Common.{◌≡◌, ◌≢◌, ℕ, ◌+◌, ◌-◌, ◌*◌, ◌/◌, ◌%◌, ◌<◌, ◌≤◌, max, zero, suc, true, false, nat_lt, if◌then◌else◌, List, slice_index, refl, sym, ap, subst, ◌∙◌, inl, inr, add_assoc, add-one, mul_comm, lit<, arith}
+use Rattle.std.proofs.Common.{◌≡◌, ◌≢◌, ℕ, ◌+◌, ◌-◌, ◌*◌, ◌/◌, ◌%◌, ◌<◌, ◌≤◌, max, zero, suc, true, false, nat_lt, if◌then◌else◌, List, length, slice_index, refl, sym, ap, subst, ◌∙◌, inl, inr, add_assoc, add-one, mul_comm, lit<, arith}
 use Rattle.std.proofs.lemmas.Bool.{cases_lt}
 use Rattle.std.proofs.lemmas.Bool.Decides.{nat_tests}
-use Rattle.std.proofs.lemmas.List.{get_or-set_other}
+use Rattle.std.proofs.lemmas.List.{get_or-set_other, get_or-set_same}
 use Rattle.std.proofs.lemmas.Nat.{mul-add-lt, div-mul-add, mod-mul-add, div_below, mod_below, div-add-mod'}
+use Rattle.sr_base.proofs.Ranges.{pool_fits}
 use Rattle.sr_base.specs.Layout.{LayoutView}
-use Rattle.sr_base.specs.WordName.{filter_words, HasPlace, HasVersion, HasWord, cells_of, entries_of, tick_place, filter_start, pipes_start, vips_start, pools_start, down_start, words_of, entry_number, pipe_start, pool_start, place_of, word_at, with_word, NamesApart, EachPlaceNamed, StoresApart}
+use Rattle.sr_base.specs.WordName.{filter_words, HasPlace, HasVersion, HasWord, cells_of, entries_of, tick_place, filter_start, pipes_start, vips_start, pools_start, down_start, words_of, entry_number, pipe_start, pool_start, place_of, word_at, with_word, NamesApart, PlacesBelow, EachPlaceNamed, StoresStand, StoresApart}
 use Rattle.sr_base.specs.declared.place.Place.{Place}
 use Rattle.sr_base.specs.declared.place.Place.TheVariants as place
 use Rattle.sr_base.specs.declared.shape.Shape.{Shape}
@@ -192,6 +193,22 @@ name_at-place_of l (Filter index) h = from_filter l index ∙ part-here (filter_
 
 pub names_apart : (l : LayoutView) → NamesApart l
 names_apart l a b p q e = sym (name_at-place_of l a p) ∙ ap (name_at l) e ∙ name_at-place_of l b q
+
+pub places_below : (l : LayoutView) → PlacesBelow l
+places_below l Tick h = omega arith
+places_below l (Note pipe) h = let row = row_lt pipe (1 + l.shape.ring) 0 l.shape.pipes h (omega arith) in omega arith
+places_below l (Ring pipe cell) h = let row = row_lt pipe (1 + l.shape.ring) (1 + cell) l.shape.pipes h.0 (omega arith) in omega arith
+places_below l (Slot way bucket cell) h = let entry = entry_lt l.shape (place.Slot way bucket cell) h in omega arith
+places_below l (Full row) h = omega arith
+places_below l (Hit p) h = let entry = entry_lt l.shape p h in omega arith
+places_below l (Vip vip) h = omega arith
+places_below l (Head vip version) h = let row = pool_fits vip version l.vips l.shape.versions (1 + l.shape.pool_max) h.0 h.1 in omega arith
+places_below l (Member vip version index) h = let row = pool_fits vip version l.vips l.shape.versions (1 + l.shape.pool_max) h.0.0 h.0.1 in omega arith
+places_below l (Down server) h = omega arith
+places_below l (Filter index) h = omega arith
+
+pub stores_stand : (l : LayoutView) → StoresStand l
+stores_stand l words name x h q = get_or-set_same words (place_of l name) x 0 (let below = places_below l name h in omega arith)
 
 pub stores_apart : (l : LayoutView) → StoresApart l
 stores_apart l words a b x p q differ = get_or-set_other words (place_of l a) (place_of l b) x 0 (λ e. differ (names_apart l b a q p e))

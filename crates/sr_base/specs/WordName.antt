@@ -10,7 +10,7 @@
 --    them from what other threads store or load.
 --  * Last what each packet loads and only an update or a server's end stores: the words of the virtual addresses, each version's head with
 --    its servers in one run, the down words.
-use Rattle.std.specs.Prelude.{◌≡◌, ◌≢◌, ℕ, ◌+◌, ◌-◌, ◌*◌, ◌/◌, ◌%◌, ◌<◌, ◌≤◌, max, nat_lt, if◌then◌else◌, List, slice_index, slice_set}
+use Rattle.std.specs.Prelude.{◌≡◌, ◌≢◌, ℕ, ◌+◌, ◌-◌, ◌*◌, ◌/◌, ◌%◌, ◌<◌, ◌≤◌, max, nat_lt, if◌then◌else◌, List, length, slice_index, slice_set}
 use Rattle.sr_base.specs.Layout.{LayoutView}
 use Rattle.sr_base.specs.declared.place.Place.{Place}
 use Rattle.sr_base.specs.declared.place.Place.TheVariants as place
@@ -111,6 +111,10 @@ word_at l words name = slice_index words (place_of l name)
 abbrev pub with_word : LayoutView → List ℕ → WordName → ℕ → List ℕ
 with_word l words name x = slice_set words (place_of l name) x
 
+-- the place of every name is below the number of words
+abbrev pub PlacesBelow : LayoutView → Type 0
+PlacesBelow l = (name : WordName) → HasWord l name → place_of l name < words_of l
+
 -- different names have different places
 abbrev pub NamesApart : LayoutView → Type 0
 NamesApart l = (a b : WordName) → HasWord l a → HasWord l b → place_of l a ≡ place_of l b → a ≡ b
@@ -118,6 +122,10 @@ NamesApart l = (a b : WordName) → HasWord l a → HasWord l b → place_of l a
 -- each place below the number of words is that of a name
 abbrev pub EachPlaceNamed : LayoutView → Type 0
 EachPlaceNamed l = (n : ℕ) → n < words_of l → (name : WordName) × HasWord l name × (place_of l name ≡ n)
+
+-- a store at a name is found there
+abbrev pub StoresStand : LayoutView → Type 0
+StoresStand l = (words : List ℕ) (name : WordName) (x : ℕ) → HasWord l name → words_of l ≤ length words → word_at l (with_word l words name x) name ≡ x
 
 -- a store at one name leaves the number at every other name
 abbrev pub StoresApart : LayoutView → Type 0

@@ -1,5 +1,5 @@
 ghost use Rattle.std.specs.Prelude.{◌≡◌, ℕ, ◌^◌, ◌<◌, Some};
-ghost use Rattle.sr_base.specs.Fields.{Unpacks};
+ghost use Rattle.sr_base.specs.Fields.{RoundTrip, Unpacks};
 ghost use Rattle.sr_base.specs.FullWord.{full_number, packed_full, unpacked_full, IsFullWord};
 
 use crate::key::key_in;
@@ -67,7 +67,8 @@ fn number(state: u64, version: u8, key: u64) -> u64
 
 /// The law of the packing: a packed row unpacks to itself, and to nothing else.
 pub fn full_unpacks(word: FullWord) -> Option<FullWord>
-    ensures { result ≡ Some word }
+    ensures same { result ≡ Some word }
+    ensures law { RoundTrip packed_full IsFullWord unpacked_full }
 {
     FullWord::unpack(word.pack())
 }

@@ -1,7 +1,7 @@
 ghost use Rattle.std.specs.Prelude.{◌≡◌, ◌+◌, ◌<◌, ◌≤◌, ◌↔◌, IsTrue, MatchResult};
 ghost use Rattle.sr_base.specs.Limit.{between, power_up_to, table_limit_of, other_limit_of, limit_of};
 ghost use Rattle.sr_base.specs.Layout.{IsLayout};
-ghost use Rattle.sr_base.specs.WordName.{filter_words, HasPlace, HasVersion, HasWord, entries_of, filter_start, pipes_start, vips_start, pools_start, down_start, words_of, entry_number, pipe_start, pool_start, place_of, NamesApart, EachPlaceNamed, StoresApart};
+ghost use Rattle.sr_base.specs.WordName.{filter_words, HasPlace, HasVersion, HasWord, entries_of, filter_start, pipes_start, vips_start, pools_start, down_start, words_of, entry_number, pipe_start, pool_start, place_of, NamesApart, PlacesBelow, EachPlaceNamed, StoresStand, StoresApart};
 
 use crate::{Place, Shape, WordName};
 use std::marker::Model;
@@ -355,10 +355,13 @@ pub fn layout_ranges(layout: &Layout)
     let _ = &layout.shape;
 }
 
-/// The law of the places: different names have different ones, each below the number of words has a name, and so a store at one name
-/// leaves the word of every other.
+/// The law of the places: different names have different ones, each place below the number of words has a name and no other place has; and
+/// so in a list of words a store at a name is found there, and leaves the word of every other name.
 pub fn words_stand_apart(layout: &Layout)
     ensures apart { NamesApart layout.now }
+    ensures below { PlacesBelow layout.now }
     ensures named { EachPlaceNamed layout.now }
+    ensures stand { StoresStand layout.now }
     ensures stores { StoresApart layout.now }
-{}
+{
+}

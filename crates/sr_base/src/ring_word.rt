@@ -1,5 +1,5 @@
 ghost use Rattle.std.specs.Prelude.{◌≡◌, ℕ, ◌^◌, ◌<◌, Some};
-ghost use Rattle.sr_base.specs.Fields.{Unpacks};
+ghost use Rattle.sr_base.specs.Fields.{RoundTrip, Unpacks};
 ghost use Rattle.sr_base.specs.RingWord.{kind_number, packed_ring, unpacked_ring, TellsVersion, IsRingWord};
 
 use crate::key::key_in;
@@ -74,7 +74,8 @@ impl RingWord {
 /// The law of the packing: a packed report unpacks to itself, and to nothing else.
 pub fn ring_unpacks(word: RingWord) -> Option<RingWord>
     requires { TellsVersion word.kind word.version }
-    ensures { result ≡ Some word }
+    ensures same { result ≡ Some word }
+    ensures law { RoundTrip packed_ring IsRingWord unpacked_ring }
 {
     RingWord::unpack(word.pack())
 }

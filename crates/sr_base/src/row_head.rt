@@ -1,5 +1,5 @@
 ghost use Rattle.std.specs.Prelude.{◌≡◌, ℕ, ◌^◌, ◌<◌, Some};
-ghost use Rattle.sr_base.specs.Fields.{Unpacks};
+ghost use Rattle.sr_base.specs.Fields.{RoundTrip, Unpacks};
 ghost use Rattle.sr_base.specs.RowHead.{packed_head, unpacked_head, HeadFits, IsRowHead};
 
 /// What stands before the servers of a version of a pool. The word 0 belongs to a version that isn't given, and is no head.
@@ -40,7 +40,8 @@ impl RowHead {
 /// The law of the packing: a packed head unpacks to itself, and to nothing else.
 pub fn head_unpacks(head: RowHead) -> Option<RowHead>
     requires { HeadFits head }
-    ensures { result ≡ Some head }
+    ensures same { result ≡ Some head }
+    ensures law { RoundTrip packed_head IsRowHead unpacked_head }
 {
     RowHead::unpack(head.pack())
 }

@@ -1,5 +1,5 @@
 ghost use Rattle.std.specs.Prelude.{◌≡◌, ℕ, ◌^◌, ◌<◌, Some};
-ghost use Rattle.sr_base.specs.Fields.{Unpacks};
+ghost use Rattle.sr_base.specs.Fields.{RoundTrip, Unpacks};
 ghost use Rattle.sr_base.specs.SlotWord.{slot_number, packed_slot, unpacked_slot, SlotVipFits, IsSlotWord};
 
 use crate::Version;
@@ -82,7 +82,8 @@ fn number(state: u64, vip: u8, digest: u16, version: u8) -> u64
 /// The law of the packing: a packed cell unpacks to itself, and to nothing else.
 pub fn slot_unpacks(word: SlotWord) -> Option<SlotWord>
     requires { SlotVipFits word }
-    ensures { result ≡ Some word }
+    ensures same { result ≡ Some word }
+    ensures law { RoundTrip packed_slot IsSlotWord unpacked_slot }
 {
     SlotWord::unpack(word.pack())
 }

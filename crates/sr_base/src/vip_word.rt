@@ -1,5 +1,5 @@
 ghost use Rattle.std.specs.Prelude.{◌≡◌, ℕ, ◌^◌, ◌<◌, Some};
-ghost use Rattle.sr_base.specs.Fields.{Unpacks};
+ghost use Rattle.sr_base.specs.Fields.{RoundTrip, Unpacks};
 ghost use Rattle.sr_base.specs.VipWord.{packed_vip, unpacked_vip, NextFits, IsVipWord};
 
 use crate::Version;
@@ -66,7 +66,8 @@ impl VipWord {
 /// The law of the packing: a packed word unpacks to itself, and to nothing else.
 pub fn vip_unpacks(word: VipWord) -> Option<VipWord>
     requires { NextFits word.phase word.cur word.next }
-    ensures { result ≡ Some word }
+    ensures same { result ≡ Some word }
+    ensures law { RoundTrip packed_vip IsVipWord unpacked_vip }
 {
     VipWord::unpack(word.pack())
 }
