@@ -1,3 +1,10 @@
+pub mod Fields
+pub mod FullWord
 pub mod Key
 pub mod Layout
 pub mod Limit
+pub mod RingWord
+pub mod RowHead
+pub mod SlotWord
+pub mod VipWord
+pub mod WordName

@@ -1,5 +1,5 @@
 ghost use Rattle.std.specs.Prelude.{◌≡◌, ℕ, ◌*◌, ◌^◌, ◌<◌, ◌≤◌, MatchOption, Some};
-ghost use Rattle.sr_base.specs.Key.{KeyView, packed};
+ghost use Rattle.sr_base.specs.Key.{KeyView, key_of, packed};
 
 use std::marker::Model;
 
@@ -57,6 +57,17 @@ impl Key {
         } else {
             None
         }
+    }
+}
+
+// The key in the lowest 52 bits of a word.
+pub(crate) fn key_in(word: u64) -> Key
+    ensures { result ≡ key_of word }
+{
+    Key {
+        vip: (word >> 48 & 0xf) as u8,
+        ip: (word >> 16 & 0xffff_ffff) as u32,
+        port: (word & 0xffff) as u16,
     }
 }
 

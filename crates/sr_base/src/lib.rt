@@ -3,21 +3,33 @@
 #![tactic(auto)]
 
 mod change;
+mod full_word;
 mod key;
 mod kind;
 mod layout;
 mod packet;
 mod place;
 mod pool;
+mod ring_word;
+mod row_head;
 mod shape;
+mod slot_word;
 mod version;
+mod vip_word;
+mod word_name;
 
 pub use change::{Change, What};
+pub use full_word::{FullWord, full_unpacks};
 pub use key::{Key, unpacks};
 pub use kind::Kind;
 pub use layout::{Layout, ShapeLimit};
 pub use packet::Packet;
 pub use place::Place;
 pub use pool::Pool;
+pub use ring_word::{RingKind, RingWord, ring_unpacks};
+pub use row_head::{RowHead, head_unpacks};
 pub use shape::Shape;
+pub use slot_word::{SlotWord, slot_unpacks};
 pub use version::Version;
+pub use vip_word::{Phase, VipWord, vip_unpacks};
+pub use word_name::WordName;

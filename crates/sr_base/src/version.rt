@@ -1,4 +1,4 @@
-ghost use Rattle.std.specs.Prelude.{◌≡◌, ℕ, ◌<◌, ◌≤◌, MatchOption};
+ghost use Rattle.std.specs.Prelude.{◌≡◌, ℕ, ◌<◌, ◌≤◌, ◌%◌, ◌^◌, MatchOption};
 
 use std::marker::Model;
 
@@ -31,4 +31,11 @@ impl Version {
     {
         self.0
     }
+}
+
+// The version in the lowest six bits of a word.
+pub(crate) fn version_in(word: u64) -> Version
+    ensures { result ≡ word % 2 ^ 6 }
+{
+    Version((word & 0x3f) as u8)
 }

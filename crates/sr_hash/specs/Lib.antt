@@ -1,3 +1,4 @@
+pub mod Clash
 pub mod Fnv
 pub mod Keyed
 pub mod Uses
