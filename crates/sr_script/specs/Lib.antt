@@ -1,1 +1,4 @@
 pub mod Address
+pub mod Fault
+pub mod Path
+pub mod Why

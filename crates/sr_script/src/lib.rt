@@ -2,5 +2,11 @@
 #![tactic(auto)]
 
 mod address_text;
+mod fault;
+mod refusal;
+mod section;
+mod why;
 
 pub use address_text::address;
+pub use refusal::{ParseRefusal, ScriptRefusal};
+pub use why::Why;

@@ -1,0 +1,44 @@
+-- Faults of a script, and how what a part of the code answers stands to what the definitions give.
+use Rattle.std.specs.Prelude.{◌≡◌, ℕ, List, Result, Ok, Err, string_bytes}
+use Rattle.sr_script.specs.declared.why.Why.{Why}
+use Rattle.sr_script.specs.declared.refusal.ScriptRefusal.{ScriptRefusal}
+use Rattle.sr_script.specs.declared.refusal.ParseRefusal.{ParseRefusal}
+use Rattle.sr_script.specs.declared.refusal.ParseRefusal.TheVariants.{Script, Memory}
+
+-- why and where
+pub record Fault : Type 0 where
+  pub why : Why
+  pub path : List ℕ
+
+-- the fault that a refusal names
+abbrev pub fault_of : ScriptRefusal → Fault
+fault_of r = record { why = r.why; path = string_bytes r.path }
+
+-- what is spelled, or the first fault
+abbrev pub Reading : Type 0 → Type 0
+Reading A = Result A Fault
+
+-- a fault of this kind at this path
+abbrev pub bad : {A : Type 0} → Why → List ℕ → Reading A
+bad why path = Err (record { why = why; path = path })
+
+infixl 10 ◌>>=◌
+-- the second where the first one gives a value
+abbrev pub ◌>>=◌ : {A B : Type 0} → Reading A → (A → Reading B) → Reading B
+(Ok x) >>= f = f x
+(Err e) >>= f = Err e
+
+-- the refusal names the fault, or memory ran out
+abbrev pub Refuses : ParseRefusal → Fault → Type 0
+Refuses (Script r) fault = fault ≡ fault_of r
+Refuses Memory fault = Unit {0}
+
+-- the refusal names the reading's fault, or memory ran out
+abbrev pub Fails : {A : Type 0} → ParseRefusal → Reading A → Type 0
+Fails e (Ok x) = e ≡ Memory
+Fails e (Err fault) = Refuses e fault
+
+-- the answer is what the reading gives, or memory ran out
+abbrev pub Answers : {T A : Type 0} → (T → A) → Result T ParseRefusal → Reading A → Type 0
+Answers view (Ok x) reading = reading ≡ Ok (view x)
+Answers view (Err e) reading = Fails e reading
