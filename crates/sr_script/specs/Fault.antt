@@ -14,19 +14,25 @@ pub record Fault : Type 0 where
 abbrev pub fault_of : ScriptRefusal → Fault
 fault_of r = record { why = r.why; path = string_bytes r.path }
 
--- what is spelled, or the first fault
+-- what a value spells, or why it is at fault
+abbrev pub Judgement : Type 0 → Type 0
+Judgement A = Result A Why
+
+-- what a part of a script spells, or its first fault
 abbrev pub Reading : Type 0 → Type 0
 Reading A = Result A Fault
 
--- a fault of this kind at this path
-abbrev pub bad : {A : Type 0} → Why → List ℕ → Reading A
-bad why path = Err (record { why = why; path = path })
-
 infixl 10 ◌>>=◌
--- the second where the first one gives a value
-abbrev pub ◌>>=◌ : {A B : Type 0} → Reading A → (A → Reading B) → Reading B
+
+-- the first, and where it gives a value the second
+abbrev pub ◌>>=◌ : {A B E : Type 0} → Result A E → (A → Result B E) → Result B E
 (Ok x) >>= f = f x
 (Err e) >>= f = Err e
+
+-- the judgement on what stands at this path
+abbrev pub at_path : {A : Type 0} → List ℕ → Judgement A → Reading A
+at_path path (Ok x) = Ok x
+at_path path (Err why) = Err (record { why = why; path = path })
 
 -- the refusal names the fault, or memory ran out
 abbrev pub Refuses : ParseRefusal → Fault → Type 0
@@ -42,3 +48,8 @@ Fails e (Err fault) = Refuses e fault
 abbrev pub Answers : {T A : Type 0} → (T → A) → Result T ParseRefusal → Reading A → Type 0
 Answers view (Ok x) reading = reading ≡ Ok (view x)
 Answers view (Err e) reading = Fails e reading
+
+-- the answer under a view of its value
+abbrev pub seen : {T A E : Type 0} → (T → A) → Result T E → Result A E
+seen view (Ok x) = Ok (view x)
+seen view (Err e) = Err e

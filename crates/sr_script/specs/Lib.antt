@@ -1,4 +1,6 @@
 pub mod Address
 pub mod Fault
+pub mod Judge
 pub mod Path
+pub mod Walk
 pub mod Why

@@ -4,7 +4,9 @@
 mod address_text;
 mod fault;
 mod refusal;
+mod rule;
 mod section;
+mod tree;
 mod why;
 
 pub use address_text::address;
