@@ -23,7 +23,6 @@ abbrev pub Reading : Type 0 → Type 0
 Reading A = Result A Fault
 
 infixl 10 ◌>>=◌
-
 -- the first, and where it gives a value the second
 abbrev pub ◌>>=◌ : {A B E : Type 0} → Result A E → (A → Result B E) → Result B E
 (Ok x) >>= f = f x

@@ -46,6 +46,13 @@ fits (PowerUpTo most) n = power_up_to most n
 fits (FoursUpTo most) n = between 4 most n && (n % 4 == 0)
 fits (Below count) n = nat_lt n count
 
+-- no number of the rule is greater
+abbrev pub most_of : Rule → ℕ
+most_of (Between low high) = high
+most_of (PowerUpTo most) = most
+most_of (FoursUpTo most) = most
+most_of (Below count) = count
+
 -- a whole number by a rule
 abbrev pub by_rule : Rule → Why → ℤ → Judgement ℕ
 by_rule rule why (pos n) = if fits rule n then Ok n else Err why

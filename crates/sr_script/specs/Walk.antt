@@ -40,8 +40,19 @@ only_known section known (key ∷ keys) =
 
 -- the numbers of a shape that says nothing
 abbrev pub default_shape : shape.Shape
-default_shape = record { pipes = 8; buckets = 8192; digest_bits = 16; versions = 64; pool_max = 16; full_rows = 1024;
-    filter_bits = 65536; ring = 65536; window_ms = 100; idle_ms = 10000; lives = 3 }
+default_shape = record {
+  pipes = 8;
+  buckets = 8192;
+  digest_bits = 16;
+  versions = 64;
+  pool_max = 16;
+  full_rows = 1024;
+  filter_bits = 65536;
+  ring = 65536;
+  window_ms = 100;
+  idle_ms = 10000;
+  lives = 3;
+}
 
 -- the keys of a shape
 abbrev pub shape_keys : List (List ℕ)
@@ -71,8 +82,19 @@ shape_in t = do
   window_ms ← shape_number (codes "window_ms") default_shape.window_ms (Between 1 60000) t
   idle_ms ← shape_number (codes "idle_ms") default_shape.idle_ms (Between 1 86400000) t
   lives ← shape_number (codes "lives") default_shape.lives (Between 1 255) t
-  Ok (record { pipes = pipes; buckets = buckets; digest_bits = digest_bits; versions = versions; pool_max = pool_max; full_rows = full_rows;
-      filter_bits = filter_bits; ring = ring; window_ms = window_ms; idle_ms = idle_ms; lives = lives })
+  Ok (record {
+    pipes = pipes;
+    buckets = buckets;
+    digest_bits = digest_bits;
+    versions = versions;
+    pool_max = pool_max;
+    full_rows = full_rows;
+    filter_bits = filter_bits;
+    ring = ring;
+    window_ms = window_ms;
+    idle_ms = idle_ms;
+    lives = lives;
+  })
 
 abbrev pub shape_or : Option Data → Reading shape.Shape
 shape_or None = Ok default_shape

@@ -3,9 +3,11 @@
 
 mod address_text;
 mod fault;
+mod known;
 mod refusal;
 mod rule;
 mod section;
+mod shape_table;
 mod tree;
 mod why;
 

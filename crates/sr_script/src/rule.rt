@@ -1,6 +1,6 @@
-ghost use Rattle.std.specs.Prelude.{◌≡◌};
+ghost use Rattle.std.specs.Prelude.{◌≡◌, ◌≤◌, IfOk, IsTrue};
 ghost use Rattle.sr_script.specs.Fault.{seen};
-ghost use Rattle.sr_script.specs.Judge.{fits, number};
+ghost use Rattle.sr_script.specs.Judge.{fits, most_of, number};
 ghost use Rattle.toml.specs.View.{view};
 
 use crate::Why;
@@ -21,7 +21,8 @@ pub enum Rule {
 }
 
 fn fits(rule: Rule, n: u64) -> bool
-    ensures { result ≡ fits rule n }
+    ensures value { result ≡ fits rule n }
+    ensures bound { IsTrue result → n ≤ most_of rule }
 {
     match rule {
         Rule::Between(low, high) => low <= n && n <= high,
@@ -33,7 +34,8 @@ fn fits(rule: Rule, n: u64) -> bool
 
 /// The whole number of a rule that a value is, and else this reason.
 pub fn number(value: &Value, rule: Rule, why: Why) -> Result<u64, Why>
-    ensures { result ≡ number rule why (view value.now) }
+    ensures value { result ≡ number rule why (view value.now) }
+    ensures bound { IfOk result (λ n. n ≤ most_of rule) }
 {
     let n = whole(value)?;
     if n < 0 {
