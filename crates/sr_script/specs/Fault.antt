@@ -1,5 +1,5 @@
 -- Faults of a script, and how what a part of the code answers stands to what the definitions give.
-use Rattle.std.specs.Prelude.{◌≡◌, ℕ, List, Result, Ok, Err, string_bytes}
+use Rattle.std.specs.Prelude.{◌≡◌, ℕ, List, [], ◌∷◌, ◌++◌, Result, Ok, Err, string_bytes}
 use Rattle.sr_script.specs.declared.why.Why.{Why}
 use Rattle.sr_script.specs.declared.refusal.ScriptRefusal.{ScriptRefusal}
 use Rattle.sr_script.specs.declared.refusal.ParseRefusal.{ParseRefusal}
@@ -32,6 +32,11 @@ abbrev pub ◌>>=◌ : {A B E : Type 0} → Result A E → (A → Result B E) �
 abbrev pub at_path : {A : Type 0} → List ℕ → Judgement A → Reading A
 at_path path (Ok x) = Ok x
 at_path path (Err why) = Err (record { why = why; path = path })
+
+-- the elements of an array in their order, each read by a step that knows those before it
+unfoldable pub each_after : {A B : Type 0} → (List A → B → Reading A) → List A → List B → Reading (List A)
+each_after step before [] = Ok before
+each_after step before (d ∷ ds) = step before d >>= (λ x. each_after step (before ++ x ∷ []) ds)
 
 -- the refusal names the fault, or memory ran out
 abbrev pub Refuses : ParseRefusal → Fault → Type 0

@@ -69,6 +69,6 @@ some why (x ∷ xs) = Ok (x ∷ xs)
 abbrev pub at_most : {A : Type 0} → ℕ → Why → List A → Judgement (List A)
 at_most most why xs = if nat_le (length xs) most then Ok xs else Err why
 
--- a value that isn't among those before it
+-- a value that is none of those before it
 abbrev pub fresh : {A : Type 0} → (A → A → Bool) → List A → A → Judgement A
-fresh same before x = if list_any (same x) before then Err Repeated else Ok x
+fresh same before x = if list_any (λ y. same y x) before then Err Repeated else Ok x

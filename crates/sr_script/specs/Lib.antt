@@ -2,5 +2,6 @@ pub mod Address
 pub mod Fault
 pub mod Judge
 pub mod Path
+pub mod VipList
 pub mod Walk
 pub mod Why

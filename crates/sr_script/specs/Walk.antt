@@ -1,5 +1,5 @@
 -- The walk through the tree of a script: the script that the tree spells, or the first fault and its path.
-use Rattle.std.specs.Prelude.{ℕ, Bool, true, false, ◌||◌, ◌&&◌, ◌==◌, nat_eq, List, [], ◌∷◌, ◌++◌, codes, length, if◌then◌else◌, Option, Some, None, ok_or, Ok, Err}
+use Rattle.std.specs.Prelude.{ℕ, Bool, true, false, ◌||◌, ◌&&◌, ◌==◌, nat_eq, List, [], ◌∷◌, codes, length, ◌-◌, map, if◌then◌else◌, Option, Some, None, option_map, unwrap_or, ok_or, slice_get, Ok, Err}
 use Rattle.std.specs.List.{list_any}
 use Rattle.std.specs.Str.{bytes_eq}
 use Rattle.toml.specs.Data.{Data, Members, get_member}
@@ -13,7 +13,7 @@ use Rattle.sr_script.specs.declared.section.Section.TheVariants.{Top, Shape, Vip
 use Rattle.sr_script.specs.declared.rule.Rule.{Rule}
 use Rattle.sr_script.specs.declared.rule.Rule.TheVariants.{Between, PowerUpTo, FoursUpTo, Below}
 use Rattle.sr_script.specs.Address.{address_of}
-use Rattle.sr_script.specs.Fault.{Judgement, Reading, ◌>>=◌, at_path}
+use Rattle.sr_script.specs.Fault.{Judgement, Reading, ◌>>=◌, at_path, each_after}
 use Rattle.sr_script.specs.Path.{key_path, item_path}
 use Rattle.sr_script.specs.Judge.{keys_of, has, wanted, text, elements, table, number, some, at_most, fresh}
 
@@ -115,17 +115,15 @@ address bytes = ok_or (address_of bytes) OutOfRange
 unfoldable pub new_address : List Address → Data → Judgement Address
 new_address before d = text d >>= address >>= fresh same_address before
 
--- the servers after those before
-unfoldable pub servers_from : List Address → List Data → Reading (List Address)
-servers_from before [] = Ok before
-servers_from before (d ∷ ds) =
-    at_path (item_path Top (codes "servers") (length before)) (new_address before d)
-    >>= (λ server. servers_from (before ++ server ∷ []) ds)
+-- a server of the script
+abbrev pub server_in : List Address → Data → Reading Address
+server_in before d = at_path (item_path Top (codes "servers") (length before)) (new_address before d)
+
+unfoldable pub server_values : Members → Judgement (List Data)
+server_values t = wanted (codes "servers") t >>= elements >>= some OutOfRange >>= at_most 65536 OutOfRange
 
 unfoldable pub servers_of : Members → Reading (List Address)
-servers_of t =
-    at_path (key_path Top (codes "servers")) (wanted (codes "servers") t >>= elements >>= some OutOfRange >>= at_most 65536 OutOfRange)
-    >>= servers_from []
+servers_of t = at_path (key_path Top (codes "servers")) (server_values t) >>= each_after server_in []
 
 -- ---- a pool
 
@@ -133,39 +131,52 @@ servers_of t =
 unfoldable pub new_server : ℕ → List ℕ → Data → Judgement ℕ
 new_server servers before d = number (Below servers) NoSuchServer d >>= fresh nat_eq before
 
--- the servers of a pool after those before
-unfoldable pub pool_from : Section → ℕ → List ℕ → List Data → Reading (List ℕ)
-pool_from section servers before [] = Ok before
-pool_from section servers before (d ∷ ds) =
-    at_path (item_path section (codes "pool") (length before)) (new_server servers before d)
-    >>= (λ server. pool_from section servers (before ++ server ∷ []) ds)
+-- a member of the pool
+abbrev pub member_in : Section → ℕ → List ℕ → Data → Reading ℕ
+member_in section servers before d = at_path (item_path section (codes "pool") (length before)) (new_server servers before d)
+
+unfoldable pub pool_values : ℕ → Members → Judgement (List Data)
+pool_values pool_max t = wanted (codes "pool") t >>= elements >>= some EmptyPool >>= at_most pool_max PoolTooLarge
 
 unfoldable pub pool_in : Section → ℕ → ℕ → Members → Reading (List ℕ)
-pool_in section pool_max servers t =
-    at_path (key_path section (codes "pool")) (wanted (codes "pool") t >>= elements >>= some EmptyPool >>= at_most pool_max PoolTooLarge)
-    >>= pool_from section servers []
+pool_in section pool_max servers t = at_path (key_path section (codes "pool")) (pool_values pool_max t) >>= each_after (member_in section servers) []
 
 -- ---- the virtual addresses
 
--- the table of a virtual address after those before
-unfoldable pub vip_in : ℕ → ℕ → List Address → Data → Reading (Address × List ℕ)
-vip_in pool_max servers before d = do
-  t ← at_path (item_path Top (codes "vip") (length before)) (table d)
+unfoldable pub vip_address : List Address → Members → Judgement Address
+vip_address before t = wanted (codes "addr") t >>= new_address before
+
+-- the table of a virtual address
+unfoldable pub vip_table : ℕ → ℕ → List Address → Members → Reading (Address × List ℕ)
+vip_table pool_max servers before t = do
   _ ← only_known (Vip (length before)) (codes "addr" ∷ codes "pool" ∷ []) (keys_of t)
-  vip ← at_path (key_path (Vip (length before)) (codes "addr")) (wanted (codes "addr") t >>= new_address before)
+  vip ← at_path (key_path (Vip (length before)) (codes "addr")) (vip_address before t)
   pool ← pool_in (Vip (length before)) pool_max servers t
   Ok (vip, pool)
 
--- the virtual addresses and their pools after those before
-unfoldable pub vips_from : ℕ → ℕ → List Address → List (List ℕ) → List Data → Reading (List Address × List (List ℕ))
-vips_from pool_max servers before pools [] = Ok (before, pools)
-vips_from pool_max servers before pools (d ∷ ds) =
-    vip_in pool_max servers before d >>= (λ v. vips_from pool_max servers (before ++ v.0 ∷ []) (pools ++ v.1 ∷ []) ds)
+unfoldable pub vip_in : ℕ → ℕ → List Address → Data → Reading (Address × List ℕ)
+vip_in pool_max servers before d = at_path (item_path Top (codes "vip") (length before)) (table d) >>= vip_table pool_max servers before
+
+-- the addresses of some virtual addresses with their pools, and the pools
+abbrev pub addresses_of : List (Address × List ℕ) → List Address
+addresses_of = map (λ v. v.0)
+
+abbrev pub pools_of : List (Address × List ℕ) → List (List ℕ)
+pools_of = map (λ v. v.1)
+
+-- a virtual address after those before it
+abbrev pub vip_after : ℕ → ℕ → List (Address × List ℕ) → Data → Reading (Address × List ℕ)
+vip_after pool_max servers before d = vip_in pool_max servers (addresses_of before) d
+
+unfoldable pub vip_values : Members → Judgement (List Data)
+vip_values t = wanted (codes "vip") t >>= elements >>= some OutOfRange >>= at_most 16 TooManyVips
+
+-- the virtual addresses, and their pools
+unfoldable pub vips_in : ℕ → ℕ → List Data → Reading (List Address × List (List ℕ))
+vips_in pool_max servers values = each_after (vip_after pool_max servers) [] values >>= (λ vips. Ok (addresses_of vips, pools_of vips))
 
 unfoldable pub vips_of : ℕ → ℕ → Members → Reading (List Address × List (List ℕ))
-vips_of pool_max servers t =
-    at_path (key_path Top (codes "vip")) (wanted (codes "vip") t >>= elements >>= some OutOfRange >>= at_most 16 TooManyVips)
-    >>= vips_from pool_max servers [] []
+vips_of pool_max servers t = at_path (key_path Top (codes "vip")) (vip_values t) >>= vips_in pool_max servers
 
 -- ---- the changes
 
@@ -179,9 +190,7 @@ change_keys false = codes "at_ms" ∷ codes "vip" ∷ codes "pool" ∷ codes "do
 
 -- when the last change is due, or 0
 abbrev pub last_ms : List change → ℕ
-last_ms [] = 0
-last_ms (c ∷ []) = c.at_ms
-last_ms (c ∷ d ∷ cs) = last_ms (d ∷ cs)
+last_ms before = unwrap_or (option_map (λ c. c.at_ms) (slice_get before (length before - 1))) 0
 
 -- whether a change takes the server down
 abbrev pub takes_down : ℕ → What → Bool
@@ -189,42 +198,57 @@ takes_down server (Give vip pool) = false
 takes_down server (TakeDown other) = other == server
 
 -- a server that no change before takes down
-unfoldable pub new_down : ℕ → List change → Data → Judgement ℕ
-new_down servers before d =
-    number (Below servers) NoSuchServer d
-    >>= (λ server. if list_any (λ c. takes_down server c.what) before then Err Repeated else Ok server)
+abbrev pub still_up : List change → ℕ → Judgement ℕ
+still_up before server = if list_any (λ c. takes_down server c.what) before then Err Repeated else Ok server
+
+unfoldable pub down_in : ℕ → List change → Members → Judgement ℕ
+down_in servers before t = wanted (codes "down") t >>= number (Below servers) NoSuchServer >>= still_up before
+
+unfoldable pub given_vip : ℕ → Members → Judgement ℕ
+given_vip vips t = wanted (codes "vip") t >>= number (Below vips) NoSuchVip
+
+unfoldable pub take_down_in : Section → ℕ → List change → Members → Reading What
+take_down_in section servers before t = do
+  server ← at_path (key_path section (codes "down")) (down_in servers before t)
+  Ok (TakeDown server)
+
+unfoldable pub give_in : Section → ℕ → ℕ → ℕ → Members → Reading What
+give_in section pool_max servers vips t = do
+  vip ← at_path (key_path section (codes "vip")) (given_vip vips t)
+  pool ← pool_in section pool_max servers t
+  Ok (Give vip pool)
 
 -- what a change does
 unfoldable pub what_in : Section → ℕ → ℕ → ℕ → List change → Members → Reading What
 what_in section pool_max servers vips before t =
-    if has (codes "down") t
-    then at_path (key_path section (codes "down")) (wanted (codes "down") t >>= new_down servers before) >>= (λ server. Ok (TakeDown server))
-    else at_path (key_path section (codes "vip")) (wanted (codes "vip") t >>= number (Below vips) NoSuchVip)
-    >>= (λ vip. pool_in section pool_max servers t >>= (λ pool. Ok (Give vip pool)))
+    if has (codes "down") t then take_down_in section servers before t else give_in section pool_max servers vips t
 
--- the table of a change after those before
-unfoldable pub change_in : ℕ → ℕ → ℕ → List change → Data → Reading change
-change_in pool_max servers vips before d = do
-  t ← at_path (item_path Top (codes "change") (length before)) (table d)
+-- when a change is due
+unfoldable pub due_in : ℕ → Members → Judgement ℕ
+due_in last t = wanted (codes "at_ms") t >>= number (Between last 9007199254740991) OutOfRange
+
+-- the table of a change
+unfoldable pub change_table : ℕ → ℕ → ℕ → List change → Members → Reading change
+change_table pool_max servers vips before t = do
   _ ← only_known (Change (length before)) (change_keys (gives t)) (keys_of t)
-  at_ms ← at_path (key_path (Change (length before)) (codes "at_ms")) (wanted (codes "at_ms") t >>= number (Between (last_ms before) 9007199254740991) OutOfRange)
+  at_ms ← at_path (key_path (Change (length before)) (codes "at_ms")) (due_in (last_ms before) t)
   what ← what_in (Change (length before)) pool_max servers vips before t
   Ok (record { at_ms = at_ms; what = what })
 
--- the changes after those before
-unfoldable pub changes_from : ℕ → ℕ → ℕ → List change → List Data → Reading (List change)
-changes_from pool_max servers vips before [] = Ok before
-changes_from pool_max servers vips before (d ∷ ds) =
-    change_in pool_max servers vips before d >>= (λ c. changes_from pool_max servers vips (before ++ c ∷ []) ds)
+-- a change after those before it
+unfoldable pub change_in : ℕ → ℕ → ℕ → List change → Data → Reading change
+change_in pool_max servers vips before d =
+    at_path (item_path Top (codes "change") (length before)) (table d) >>= change_table pool_max servers vips before
 
 abbrev pub elements_or_none : Option Data → Judgement (List Data)
 elements_or_none None = Ok []
 elements_or_none (Some d) = elements d
 
+unfoldable pub change_values : Members → Judgement (List Data)
+change_values t = elements_or_none (get_member (codes "change") t) >>= at_most 4096 TooManyChanges
+
 unfoldable pub changes_of : ℕ → ℕ → ℕ → Members → Reading (List change)
-changes_of pool_max servers vips t =
-    at_path (key_path Top (codes "change")) (elements_or_none (get_member (codes "change") t) >>= at_most 4096 TooManyChanges)
-    >>= changes_from pool_max servers vips []
+changes_of pool_max servers vips t = at_path (key_path Top (codes "change")) (change_values t) >>= each_after (change_in pool_max servers vips) []
 
 -- ---- the script
 

@@ -1,6 +1,6 @@
 ghost use Rattle.std.specs.Prelude.{◌≡◌, IfOk, string_bytes};
 ghost use Rattle.sr_script.specs.Path.{prefix, key_path, item_path};
-ghost use Rattle.sr_script.specs.Fault.{Refuses};
+ghost use Rattle.sr_script.specs.Fault.{Refuses, Answers, at_path};
 
 use crate::section::Section;
 use crate::{ParseRefusal, ScriptRefusal, Why};
@@ -23,6 +23,21 @@ pub fn at_item(alloc: Global, why: Why, section: Section, key: &str, item: usize
     match item_path(alloc, section, key, item) {
         Ok(path) => ParseRefusal::Script(ScriptRefusal { why, path }),
         Err(_) => ParseRefusal::Memory,
+    }
+}
+
+/// What stands at a key of a table, where it is no fault.
+pub fn placed<T: Drop>(
+    alloc: Global,
+    judged: Result<T, Why>,
+    section: Section,
+    key: &str,
+) -> Result<T, ParseRefusal>
+    ensures { Answers (λ x. x) result (at_path (key_path section key.now) judged) }
+{
+    match judged {
+        Ok(value) => Ok(value),
+        Err(why) => Err(at_key(alloc, why, section, key)),
     }
 }
 

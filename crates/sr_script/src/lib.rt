@@ -2,13 +2,17 @@
 #![tactic(auto)]
 
 mod address_text;
+mod count;
 mod fault;
 mod known;
+mod pool_array;
 mod refusal;
 mod rule;
 mod section;
+mod servers;
 mod shape_table;
 mod tree;
+mod vip_list;
 mod why;
 
 pub use address_text::address;

@@ -1,4 +1,8 @@
+ghost use Rattle.std.specs.Prelude.{◌≡◌};
+ghost use Rattle.sr_script.specs.declared.refusal.ParseRefusal.TheVariants.{Memory};
+
 use crate::Why;
+use std::alloc::AllocFailed;
 use thiserror::Error;
 
 /// Why and where a text is no script: the first fault of a walk through it.
@@ -20,4 +24,12 @@ pub enum ParseRefusal {
     /// Memory ran out.
     #[error("out of memory")]
     Memory,
+}
+
+impl<T: Drop> From<AllocFailed<T>> for ParseRefusal {
+    ghost from_gives = { λ _ e. e ≡ Memory };
+
+    fn from(_error: AllocFailed<T>) -> ParseRefusal {
+        ParseRefusal::Memory
+    }
 }
