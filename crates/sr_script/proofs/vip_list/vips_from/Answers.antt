@@ -1,7 +1,6 @@
-use Rattle.std.proofs.Common.{refl, arith}
+use Rattle.std.proofs.Common.{arith}
 use Rattle.std.proofs.lemmas.Result.{err_from_is_err_and}
-use Rattle.sr_script.specs.Fault.{each_after}
-use Rattle.sr_script.proofs.Readings.{Parts, parts_more, parts_fails, parts_end}
+use Rattle.sr_script.proofs.Readings.{parts_more, parts_fails, parts_end}
 use Rattle.sr_script.proofs.vip_list.vips_from.Goals as goal
 
 pub returns-in_err-address-clause-value : goal.returns-in_err-address-clause-value
