@@ -13,6 +13,8 @@ mod script;
 mod section;
 mod servers;
 mod shape_table;
+#[cfg(test)]
+mod tests;
 mod tree;
 mod vip_list;
 mod why;
