@@ -2,6 +2,7 @@ pub mod Address
 pub mod Fault
 pub mod Judge
 pub mod Path
+pub mod Schema
 pub mod Script
 pub mod VipList
 pub mod Walk

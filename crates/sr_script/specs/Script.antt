@@ -8,6 +8,7 @@ use Rattle.sr_script.specs.declared.refusal.ParseRefusal.{ParseRefusal}
 use Rattle.sr_script.specs.declared.refusal.ParseRefusal.TheVariants.{Script, Memory}
 use Rattle.sr_script.specs.Fault.{Fault, fault_of}
 use Rattle.sr_script.specs.Walk.{Spelled, script_in}
+use Rattle.sr_script.specs.Schema.{Spells}
 
 -- what a script says
 abbrev pub spelled : script → Spelled
@@ -34,3 +35,17 @@ Parses bytes (Ok s) = (t : Members) × IsTree bytes t × (script_in t ≡ Ok (sp
 Parses bytes (Err (Script r)) =
     ((t : Members) × IsTree bytes t × (script_in t ≡ Err (fault_of r))) ⊎ (((t : Members) → ¬ (IsTree bytes t)) × (fault_of r ≡ not_toml))
 Parses bytes (Err Memory) = Unit {0}
+
+-- a script is one that the text's tree spells
+abbrev pub IsSpelled : List ℕ → script → Type 0
+IsSpelled bytes s = (t : Members) × IsTree bytes t × Spells t (spelled s)
+
+-- the answer where the tree spells this script: this one, unless memory ran out
+abbrev pub Takes : Spelled → Result script ParseRefusal → Type 0
+Takes s (Ok x) = spelled x ≡ s
+Takes s (Err (Script r)) = ⊥
+Takes s (Err Memory) = Unit {0}
+
+-- each text whose tree is a script is taken
+abbrev pub TakesScripts : List ℕ → Result script ParseRefusal → Type 0
+TakesScripts bytes answer = (t : Members) (s : Spelled) → IsTree bytes t → Spells t s → Takes s answer
