@@ -1,0 +1,9 @@
+pub mod Trees
+pub mod Readings
+pub mod LawWords
+pub mod LawKeys
+pub mod LawLists
+pub mod LawShape
+pub mod LawChanges
+pub mod Law
+pub mod Parsing

@@ -1,1 +1,9 @@
 pub mod Address
+pub mod Fault
+pub mod Judge
+pub mod Path
+pub mod Schema
+pub mod Script
+pub mod VipList
+pub mod Walk
+pub mod Why

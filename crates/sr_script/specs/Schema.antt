@@ -1,0 +1,165 @@
+-- The schema: which trees are scripts, and which script such a tree spells.
+use Rattle.std.specs.Prelude.{◌≡◌, ℕ, ◌≤◌, Bool, false, ℤ, pos, List, [], ◌∷◌, ◌++◌, codes, length, nat_eq, Some, option_map, MatchOption, IsTrue}
+use Rattle.std.specs.List.{list_any, AllByRecursion}
+use Rattle.std.specs.Str.{bytes_eq}
+use Rattle.toml.specs.Data.{Data, Members, as_str, as_integer, as_array, as_table, get_member}
+use Rattle.sr_base.specs.declared.shape.Shape.{Shape}
+use Rattle.sr_base.specs.declared.change.Change.{Change}
+use Rattle.sr_base.specs.declared.change.What.{What}
+use Rattle.sr_base.specs.declared.change.What.TheVariants.{Give, TakeDown}
+use Rattle.sr_script.specs.declared.rule.Rule.{Rule}
+use Rattle.sr_script.specs.declared.rule.Rule.TheVariants.{Between, PowerUpTo, FoursUpTo, Below}
+use Rattle.sr_script.specs.Address.{address_of}
+use Rattle.sr_script.specs.Judge.{list_of, keys_of, has, fits}
+use Rattle.sr_script.specs.Walk.{Address, Spelled, default_shape, shape_keys, top_keys, same_address, addresses_of, pools_of, last_ms, takes_down}
+
+-- ---- words
+
+-- the value is of this type, and this is what it holds
+abbrev pub IsText : Data → List ℕ → Type 0
+IsText d bytes = as_str d ≡ Some bytes
+
+abbrev pub IsWhole : Data → ℤ → Type 0
+IsWhole d z = as_integer d ≡ Some z
+
+abbrev pub IsArray : Data → List Data → Type 0
+IsArray d ds = option_map list_of (as_array d) ≡ Some ds
+
+abbrev pub IsTable : Data → Members → Type 0
+IsTable d t = as_table d ≡ Some t
+
+-- the key is one of these
+abbrev pub IsAmong : List (List ℕ) → List ℕ → Type 0
+IsAmong known key = IsTrue (list_any (bytes_eq key) known)
+
+-- the table has no other keys
+abbrev pub HasOnly : List (List ℕ) → Members → Type 0
+HasOnly known t = AllByRecursion (IsAmong known) (keys_of t)
+
+-- the table has the key, and its value is so
+abbrev pub At : List ℕ → Members → (Data → Type 0) → Type 0
+At key t P = (d : Data) × (get_member key t ≡ Some d) × P d
+
+-- the values spell these, one by one
+abbrev pub SpellAll : {A : Type 0} → (Data → A → Type 0) → List Data → List A → Type 0
+SpellAll R [] [] = Unit {0}
+SpellAll R [] (x ∷ xs) = ⊥
+SpellAll R (d ∷ ds) [] = ⊥
+SpellAll R (d ∷ ds) (x ∷ xs) = R d x × SpellAll R ds xs
+
+-- the value is an array whose elements spell these
+abbrev pub SpellsList : {A : Type 0} → (Data → A → Type 0) → Data → List A → Type 0
+SpellsList R d xs = (ds : List Data) × IsArray d ds × SpellAll R ds xs
+
+-- how many there are
+abbrev pub HasCount : {A : Type 0} → ℕ → ℕ → List A → Type 0
+HasCount low high xs = (low ≤ length xs) × (length xs ≤ high)
+
+-- each element stands so to those before it, where the list goes on from `before`
+abbrev pub EachAfter : {A : Type 0} → (List A → A → Type 0) → List A → List A → Type 0
+EachAfter Q before [] = Unit {0}
+EachAfter Q before (x ∷ xs) = Q before x × EachAfter Q (before ++ x ∷ []) xs
+
+-- none of those before it is the same
+abbrev pub IsNew : {A : Type 0} → (A → A → Bool) → List A → A → Type 0
+IsNew same before x = list_any (λ y. same y x) before ≡ false
+
+-- ---- numbers and addresses
+
+-- a whole number of the rule
+abbrev pub SpellsNumber : Rule → Data → ℕ → Type 0
+SpellsNumber rule d n = IsWhole d (pos n) × IsTrue (fits rule n)
+
+-- an address text
+abbrev pub SpellsAddress : Data → Address → Type 0
+SpellsAddress d a = (bytes : List ℕ) × IsText d bytes × (address_of bytes ≡ Some a)
+
+-- ---- the shape
+
+-- a number of the shape: a whole number of the rule, or the default where the key is missing
+abbrev pub SpellsOr : List ℕ → ℕ → Rule → Members → ℕ → Type 0
+SpellsOr key default rule t n = MatchOption (get_member key t) (n ≡ default) (λ d. SpellsNumber rule d n)
+
+pub record SpellsShape (t : Members) (s : Shape) : Type 0 where
+  pub keys : HasOnly shape_keys t
+  pub pipes : SpellsOr (codes "pipes") 8 (Between 1 16) t s.pipes
+  pub buckets : SpellsOr (codes "buckets") 8192 (PowerUpTo 65536) t s.buckets
+  pub digest_bits : SpellsOr (codes "digest_bits") 16 (Between 0 16) t s.digest_bits
+  pub versions : SpellsOr (codes "versions") 64 (Between 2 64) t s.versions
+  pub pool_max : SpellsOr (codes "pool_max") 16 (Between 1 255) t s.pool_max
+  pub full_rows : SpellsOr (codes "full_rows") 1024 (FoursUpTo 65536) t s.full_rows
+  pub filter_bits : SpellsOr (codes "filter_bits") 65536 (PowerUpTo 1048576) t s.filter_bits
+  pub ring : SpellsOr (codes "ring") 65536 (Between 1 65536) t s.ring
+  pub window_ms : SpellsOr (codes "window_ms") 100 (Between 1 60000) t s.window_ms
+  pub idle_ms : SpellsOr (codes "idle_ms") 10000 (Between 1 86400000) t s.idle_ms
+  pub lives : SpellsOr (codes "lives") 3 (Between 1 255) t s.lives
+
+-- ---- servers, pools and virtual addresses
+
+-- 1 to 65,536 addresses, all different
+pub record SpellsServers (d : Data) (servers : List Address) : Type 0 where
+  pub each : SpellsList SpellsAddress d servers
+  pub count : HasCount 1 65536 servers
+  pub different : EachAfter (IsNew same_address) [] servers
+
+-- 1 to `pool_max` positions among so many servers, all different
+pub record SpellsPool (pool_max servers : ℕ) (d : Data) (pool : List ℕ) : Type 0 where
+  pub each : SpellsList (SpellsNumber (Below servers)) d pool
+  pub count : HasCount 1 pool_max pool
+  pub different : EachAfter (IsNew nat_eq) [] pool
+
+-- a virtual address and its first pool
+pub record SpellsVip (pool_max servers : ℕ) (d : Data) (v : Address × List ℕ) : Type 0 where
+  pub table : Members
+  pub is_table : IsTable d table
+  pub keys : HasOnly (codes "addr" ∷ codes "pool" ∷ []) table
+  pub addr : At (codes "addr") table (λ e. SpellsAddress e v.0)
+  pub pool : At (codes "pool") table (λ e. SpellsPool pool_max servers e v.1)
+
+-- 1 to 16 virtual addresses, their addresses all different
+pub record SpellsVips (pool_max servers : ℕ) (d : Data) (vips : List (Address × List ℕ)) : Type 0 where
+  pub each : SpellsList (SpellsVip pool_max servers) d vips
+  pub count : HasCount 1 16 vips
+  pub different : EachAfter (λ before v. IsNew same_address (addresses_of before) v.0) [] vips
+
+-- ---- changes
+
+-- what a change does: it gives a virtual address a pool, or takes a server down
+abbrev pub SpellsWhat : ℕ → ℕ → ℕ → Members → What → Type 0
+SpellsWhat pool_max servers vips t (Give vip pool) =
+    (has (codes "down") t ≡ false) × At (codes "vip") t (λ d. SpellsNumber (Below vips) d vip) × At (codes "pool") t (λ d. SpellsPool pool_max servers d pool)
+SpellsWhat pool_max servers vips t (TakeDown server) =
+    (has (codes "vip") t ≡ false) × (has (codes "pool") t ≡ false) × At (codes "down") t (λ d. SpellsNumber (Below servers) d server)
+
+pub record SpellsChange (pool_max servers vips : ℕ) (d : Data) (c : Change) : Type 0 where
+  pub table : Members
+  pub is_table : IsTable d table
+  pub keys : HasOnly (codes "at_ms" ∷ codes "vip" ∷ codes "pool" ∷ codes "down" ∷ []) table
+  pub at_ms : At (codes "at_ms") table (λ e. SpellsNumber (Between 0 9007199254740991) e c.at_ms)
+  pub what : SpellsWhat pool_max servers vips table c.what
+
+-- a server that is taken down is one that no change before takes down
+abbrev pub IsStillUp : List Change → What → Type 0
+IsStillUp before (Give vip pool) = Unit {0}
+IsStillUp before (TakeDown server) = list_any (λ c. takes_down server c.what) before ≡ false
+
+-- a change isn't due before the one before it, and takes no server down a second time
+abbrev pub Follows : List Change → Change → Type 0
+Follows before c = (last_ms before ≤ c.at_ms) × IsStillUp before c.what
+
+-- at most 4,096 changes in the order in which they are due
+pub record SpellsChanges (pool_max servers vips : ℕ) (d : Data) (changes : List Change) : Type 0 where
+  pub each : SpellsList (SpellsChange pool_max servers vips) d changes
+  pub count : HasCount 0 4096 changes
+  pub ordered : EachAfter Follows [] changes
+
+-- ---- the script
+
+-- the tree is a script, and spells this one
+pub record Spells (t : Members) (s : Spelled) : Type 0 where
+  pub keys : HasOnly top_keys t
+  pub shape : MatchOption (get_member (codes "shape") t) (s.shape ≡ default_shape) (λ d. (u : Members) × IsTable d u × SpellsShape u s.shape)
+  pub servers : At (codes "servers") t (λ d. SpellsServers d s.servers)
+  pub vips : (vips : List (Address × List ℕ)) × At (codes "vip") t (λ d. SpellsVips s.shape.pool_max (length s.servers) d vips)
+      × (s.vips ≡ addresses_of vips) × (s.first ≡ pools_of vips)
+  pub changes : MatchOption (get_member (codes "change") t) (s.changes ≡ []) (λ d. SpellsChanges s.shape.pool_max (length s.servers) (length s.vips) d s.changes)

@@ -1,0 +1,183 @@
+ghost use Rattle.std.specs.Prelude.{◌≡◌, ◌≤◌, map, max, option_map, IfOk};
+ghost use Rattle.sr_script.specs.Fault.{Answers, at_path};
+ghost use Rattle.sr_script.specs.Judge.{most_of};
+ghost use Rattle.sr_script.specs.Walk.{default_shape, number_or, shape_number, shape_in, shape_or, shape_of};
+ghost use Rattle.toml.specs.View.{view, table_view};
+
+use crate::fault::at_key;
+use crate::known::only_known;
+use crate::rule::{Rule, number};
+use crate::section::Section;
+use crate::tree::{member, table};
+use crate::{ParseRefusal, Why};
+use sr_base::Shape;
+use std::alloc::Global;
+use toml::{Table, Value};
+
+/// The shape of a script that says nothing of it.
+const DEFAULT: Shape = Shape {
+    pipes: 8,
+    buckets: 8_192,
+    digest_bits: 16,
+    versions: 64,
+    pool_max: 16,
+    full_rows: 1_024,
+    filter_bits: 65_536,
+    ring: 65_536,
+    window_ms: 100,
+    idle_ms: 10_000,
+    lives: 3,
+};
+
+const KEYS: [&str; 11] = [
+    "pipes",
+    "buckets",
+    "digest_bits",
+    "versions",
+    "pool_max",
+    "full_rows",
+    "filter_bits",
+    "ring",
+    "window_ms",
+    "idle_ms",
+    "lives",
+];
+
+/// The shape of a script.
+#[tactic(auto, unfolding(crate::specs::Walk::shape_of))]
+pub fn shape(alloc: Global, script: &Table) -> Result<Shape, ParseRefusal>
+    ensures { Answers (λ s. s) result (shape_of (table_view script.now)) }
+{
+    let Some(value) = member(script, "shape") else {
+        return Ok(DEFAULT);
+    };
+    match table(value) {
+        Ok(table) => shape_in(alloc, table),
+        Err(why) => Err(at_key(alloc, why, Section::Top, "shape")),
+    }
+}
+
+// The table of a shape.
+fn shape_in(alloc: Global, table: &Table) -> Result<Shape, ParseRefusal>
+    ensures { Answers (λ s. s) result (shape_in (table_view table.now)) }
+{
+    only_known(alloc, Section::Shape, table, &KEYS)?;
+    let pipes = shape_number(
+        alloc,
+        table,
+        "pipes",
+        DEFAULT.pipes as u64,
+        Rule::Between(1, 16),
+    )?;
+    let buckets = shape_number(
+        alloc,
+        table,
+        "buckets",
+        DEFAULT.buckets as u64,
+        Rule::PowerUpTo(65_536),
+    )?;
+    let digest_bits = shape_number(
+        alloc,
+        table,
+        "digest_bits",
+        DEFAULT.digest_bits as u64,
+        Rule::Between(0, 16),
+    )?;
+    let versions = shape_number(
+        alloc,
+        table,
+        "versions",
+        DEFAULT.versions as u64,
+        Rule::Between(2, 64),
+    )?;
+    let pool_max = shape_number(
+        alloc,
+        table,
+        "pool_max",
+        DEFAULT.pool_max as u64,
+        Rule::Between(1, 255),
+    )?;
+    let full_rows = shape_number(
+        alloc,
+        table,
+        "full_rows",
+        DEFAULT.full_rows as u64,
+        Rule::FoursUpTo(65_536),
+    )?;
+    let filter_bits = shape_number(
+        alloc,
+        table,
+        "filter_bits",
+        DEFAULT.filter_bits as u64,
+        Rule::PowerUpTo(1_048_576),
+    )?;
+    let ring = shape_number(
+        alloc,
+        table,
+        "ring",
+        DEFAULT.ring as u64,
+        Rule::Between(1, 65_536),
+    )?;
+    let window_ms = shape_number(
+        alloc,
+        table,
+        "window_ms",
+        DEFAULT.window_ms,
+        Rule::Between(1, 60_000),
+    )?;
+    let idle_ms = shape_number(
+        alloc,
+        table,
+        "idle_ms",
+        DEFAULT.idle_ms,
+        Rule::Between(1, 86_400_000),
+    )?;
+    let lives = shape_number(
+        alloc,
+        table,
+        "lives",
+        DEFAULT.lives as u64,
+        Rule::Between(1, 255),
+    )?;
+    Ok(Shape {
+        pipes: pipes as u8,
+        buckets: buckets as u32,
+        digest_bits: digest_bits as u8,
+        versions: versions as u8,
+        pool_max: pool_max as u8,
+        full_rows: full_rows as u32,
+        filter_bits: filter_bits as u32,
+        ring: ring as u32,
+        window_ms,
+        idle_ms,
+        lives: lives as u8,
+    })
+}
+
+// A number of the shape.
+#[tactic(auto, unfolding(crate::specs::Walk::shape_number))]
+fn shape_number(
+    alloc: Global,
+    table: &Table,
+    key: &str,
+    default: u64,
+    rule: Rule,
+) -> Result<u64, ParseRefusal>
+    ensures value { Answers (λ n. n) result (shape_number key.now default rule (table_view table.now)) }
+    ensures bound { IfOk result (λ n. n ≤ max default (most_of rule)) }
+{
+    match number_or(member(table, key), default, rule) {
+        Ok(n) => Ok(n),
+        Err(why) => Err(at_key(alloc, why, Section::Shape, key)),
+    }
+}
+
+fn number_or(value: Option<&Value>, default: u64, rule: Rule) -> Result<u64, Why>
+    ensures value { result ≡ number_or default rule (option_map (λ v. view v.now) value.entry) }
+    ensures bound { IfOk result (λ n. n ≤ max default (most_of rule)) }
+{
+    match value {
+        Some(value) => number(value, rule, Why::OutOfRange),
+        None => Ok(default),
+    }
+}
