@@ -1,11 +1,11 @@
 -- How the records of a capture go on after one of them, for whoever reads them in a loop.
-use Rattle.std.proofs.Common.{◌≡◌, ℕ, zero, suc, ◌+◌, ◌-◌, ◌^◌, ◌≤◌, List, length, Option, refl, sym, ap, ◌∙◌, arith}
+use Rattle.std.proofs.Common.{◌≡◌, ℕ, zero, suc, ◌+◌, List, length, Option, refl, sym, ap, ◌∙◌}
 use Rattle.sr_pcap.specs.declared.format.Format.{Format}
 use Rattle.sr_pcap.specs.declared.next.Next.{Next}
 use Rattle.sr_pcap.specs.declared.next.Next.TheVariants.{Whole, End, Truncated, ReadFault, TooLong}
 use Rattle.sr_pcap.specs.Next.{next_at, size_at, frame_at, rest_at}
 use Rattle.sr_pcap.specs.Reader.{TakesRecord}
-use Rattle.sr_pcap.specs.Records.{Frame, Records, ended, with_frame, records_from}
+use Rattle.sr_pcap.specs.Records.{ended, with_frame, records_from}
 
 -- a whole record was read
 pub records_go_on : (format : Format) (room offset ms at : ℕ) (xs bytes : List ℕ) (left : Option (List ℕ)) → TakesRecord ms at format offset xs bytes left
