@@ -1,14 +1,14 @@
 -- What a header and a body that were read one after the other say of the bytes that they were read from.
-use Rattle.std.proofs.Common.{◌≡◌, ℕ, ◌+◌, ◌-◌, ◌^◌, ◌<◌, ◌≤◌, Bool, true, false, List, [], length, take, drop, nat_lt, Option, Some, None, Result, Ok, Err, refl, sym, ap, ◌∙◌, subst, arith}
+use Rattle.std.proofs.Common.{◌≡◌, ℕ, ◌+◌, ◌<◌, ◌≤◌, List, [], length, take, drop, Option, Some, Result, Ok, Err, refl, sym, ap, ◌∙◌, subst, arith}
 use Rattle.std.proofs.lemmas.Bool.{cond-true, cond-false, lt-ltb, le-ltb, ne_eqb}
-use Rattle.std.proofs.lemmas.List.{length-drop, length-take-le, drop-drop, take_all, nil_from_length}
+use Rattle.std.proofs.lemmas.List.{length-drop, length-take-le, drop-drop}
 use Rattle.sr_pcap.specs.declared.begin_refusal.BeginRefusal.{BeginRefusal}
 use Rattle.sr_pcap.specs.declared.begin_refusal.BeginRefusal.TheVariants as begin
 use Rattle.sr_pcap.specs.declared.format.Format.{Format}
 use Rattle.sr_pcap.specs.declared.next.Next.{Next}
 use Rattle.sr_pcap.specs.declared.next.Next.TheVariants.{Whole, End, Truncated, TooLong}
 use Rattle.sr_pcap.specs.Format.{IsJudged, format_of, header_of, milliseconds, captured_length}
-use Rattle.sr_pcap.specs.Next.{next_sized, next_at, size_at, frame_at, rest_at}
+use Rattle.sr_pcap.specs.Next.{next_sized, next_at, frame_at, rest_at}
 use Rattle.sr_pcap.specs.Reader.{Answers, Begins}
 
 -- too few bytes for a header

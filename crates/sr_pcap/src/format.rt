@@ -1,7 +1,9 @@
 ghost use Rattle.std.specs.Prelude.{◌≡◌, ◌≤◌, length};
 ghost use Rattle.sr_pcap.specs.Format.{IsJudged, magic_of, format_of, format_in, milliseconds, captured_length};
 
-use crate::{BeginRefusal, Endian, Resolution};
+use crate::BeginRefusal;
+use crate::endian::Endian;
+use crate::resolution::Resolution;
 
 // The link types that are read.
 const ETHERNET: u32 = 1;

@@ -15,11 +15,8 @@ mod record;
 mod resolution;
 
 pub use begin_refusal::BeginRefusal;
-pub use endian::Endian;
-pub use format::Format;
 pub use next::Next;
 pub use reader::Reader;
-pub use resolution::Resolution;
 
 #[cfg(test)]
 mod tests;

@@ -6,8 +6,9 @@ ghost use Rattle.sr_pcap.specs.declared.next.Next.{Next};
 ghost use Rattle.sr_pcap.specs.declared.next.Next.TheVariants.{ReadFault};
 
 use crate::filled::{Filled, fill};
+use crate::format::Format;
 use crate::record::Record;
-use crate::{BeginRefusal, Format, Next};
+use crate::{BeginRefusal, Next};
 use sr_io::Source;
 use std::alloc::Global;
 use std::marker::Model;

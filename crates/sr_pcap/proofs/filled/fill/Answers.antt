@@ -1,4 +1,4 @@
-use Rattle.std.proofs.Common.{◌≡◌, ℕ, ◌-◌, ◌+◌, ◌≤◌, List, length, drop, Some, arith}
+use Rattle.std.proofs.Common.{◌-◌, ◌≤◌, length, drop, arith}
 use Rattle.sr_pcap.proofs.Filling.{holds_more, holds_all}
 use Rattle.sr_pcap.proofs.filled.fill.Goals as goal
 

@@ -1,4 +1,4 @@
-use Rattle.std.proofs.Common.{◌≡◌, ℕ, ◌≤◌, ◌-◌, List, length, Some}
+use Rattle.std.proofs.Common.{◌≡◌, ℕ, ◌≤◌, ◌-◌, List, Some}
 use Rattle.sr_pcap.specs.Filled.{Holds}
 use Rattle.sr_pcap.proofs.filled.fill.Given as goal
 

@@ -1,4 +1,4 @@
-use Rattle.std.proofs.Common.{◌≡◌, ℕ, ◌≤◌, List, length, take, drop, Some, refl, sym, ◌∙◌, subst, arith}
+use Rattle.std.proofs.Common.{drop, ◌∙◌, arith}
 use Rattle.sr_pcap.proofs.Reading.{answers_long, answers_short, answers_whole}
 use Rattle.sr_pcap.proofs.reader.Reader.read_body.Goals as goal
 
