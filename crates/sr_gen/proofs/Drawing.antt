@@ -3,7 +3,8 @@ use Rattle.std.proofs.Common.{◌≡◌, ℕ, ◌+◌, ◌*◌, ◌/◌, ◌%◌
 use Rattle.sr_gen.specs.declared.connections.Connections.{Connections}
 use Rattle.sr_gen.specs.Generator.{next_state, drawn, state_after}
 use Rattle.sr_gen.specs.Connection.{connection_with, connection_of}
-use Rattle.sr_gen.specs.Connections.{connection_number, ready, StandsAt}
+use Rattle.sr_gen.specs.Connections.{StandsAt}
+use Rattle.sr_gen.specs.Turns.{connection_number}
 
 -- one step more
 pub state_more : (n seed : ℕ) → next_state (state_after n seed) ≡ state_after (n + 1) seed

@@ -4,7 +4,7 @@ use Rattle.sr_io.specs.Sink.{Adds, Puts}
 use Rattle.sr_io.specs.declared.sink.Put.{Put}
 use Rattle.sr_io.specs.declared.sink.Put.TheVariants.{All, Failed}
 use Rattle.sr_io.proofs.Adding.{adds_then, adds_front_then}
-use Rattle.sr_gen.specs.Making.{records_from}
+use Rattle.sr_gen.specs.Capture.{records_from}
 use Rattle.sr_gen.specs.Record.{record_of}
 
 pub records_step : (number t packets : ℕ) → t < packets → records_from number t (packets - t) ≡ record_of number t ++ records_from number (t + 1) (packets - (t + 1))

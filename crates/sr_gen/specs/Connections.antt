@@ -1,17 +1,10 @@
--- Whose turn it is. Packets come in blocks of a thousand: ten rounds over a hundred connections, which no other block has.
+-- Where a walk over the packets, in capture order, stands in the draws of their connections.
 use Rattle.std.specs.Prelude.{◌≡◌, ◌≢◌, ℕ, ◌+◌, ◌*◌, ◌/◌, ◌%◌}
 use Rattle.sr_gen.specs.declared.connections.Connections.{Connections}
 use Rattle.sr_gen.specs.Generator.{state_after}
+use Rattle.sr_gen.specs.Turns.{connection_number}
 
--- the connection, from 0, that packet t has, from 0
-abbrev pub connection_number : ℕ → ℕ
-connection_number t = 100 * (t / 1000) + t % 100
-
--- which of its connection's ten packets packet t is, from 0
-abbrev pub round_of : ℕ → ℕ
-round_of t = t % 1000 / 100
-
--- as the draw of packet t's connection needs it: the generator at the block's start, and before that draw
+-- as the draw of packet t's connection needs it: the generator before the block's first draw, and before that draw
 abbrev pub ready : ℕ → ℕ → Connections
 ready number t = record { block = state_after (100 * (t / 1000)) number; generator = state_after (connection_number t) number }
 

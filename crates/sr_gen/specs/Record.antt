@@ -3,7 +3,7 @@ use Rattle.std.specs.Prelude.{ℕ, ◌*◌, ◌/◌, ◌%◌, ◌==◌, if◌the
 use Rattle.byteorder.specs.Endian.{big_bytes, little_bytes}
 use Rattle.sr_gen.specs.declared.connection.Connection.{Connection}
 use Rattle.sr_gen.specs.Connection.{connection_of}
-use Rattle.sr_gen.specs.Connections.{connection_number, round_of}
+use Rattle.sr_gen.specs.Turns.{connection_number, round_of}
 
 -- when packet t was captured, in microseconds
 abbrev pub microseconds : ℕ → ℕ

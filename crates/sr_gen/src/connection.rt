@@ -1,4 +1,4 @@
-ghost use Rattle.std.specs.Prelude.{◌≡◌, ◌≤◌};
+ghost use Rattle.std.specs.Prelude.{◌≡◌, ◌+◌, ◌^◌, ◌<◌};
 
 // 10.0.0.1
 const FIRST_SOURCE: u32 = 0x0a00_0001;
@@ -7,7 +7,7 @@ const FIRST_SOURCE: u32 = 0x0a00_0001;
 const FIRST_VIP: u32 = 0xc000_0201;
 
 /// A connection: its client's address and port, and the virtual address that it goes to.
-#[derive(Clone, Copy, Debug, PartialEq, Eq)]
+#[derive(Clone, Copy)]
 pub struct Connection {
     pub source: u32,
     pub port: u16,
@@ -15,11 +15,11 @@ pub struct Connection {
 }
 
 impl Connection {
-    ghost use Rattle.sr_gen.specs.Connection.{connection_with};
+    ghost use Rattle.sr_gen.specs.Connection.{address, connection_with};
 
     /// Connection `i`, from 0, for which `drawn` was drawn.
     pub fn new(i: u32, drawn: u32) -> Connection
-        requires { i ≤ 1000000 }
+        requires { address 10 0 0 1 + i < 2 ^ 32 }
         ensures { result ≡ connection_with i drawn }
     {
         Connection {

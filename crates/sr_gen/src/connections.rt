@@ -9,17 +9,18 @@ const ROUND: u32 = 100;
 const BLOCK: u32 = 1000;
 
 /// The connections of the packets, in capture order. Those of a block are drawn anew in each of its rounds, so that none is kept.
-#[derive(Clone, Copy, Debug, PartialEq, Eq)]
+#[derive(Clone, Copy)]
 pub struct Connections {
-    /// Before the first draw of the block.
-    pub block: Generator,
-    /// Before the next draw.
-    pub generator: Generator,
+    // Before the first draw of the block.
+    block: Generator,
+    // Before the next draw.
+    generator: Generator,
 }
 
 impl Connections {
     ghost use Rattle.sr_gen.specs.Connection.{connection_of};
-    ghost use Rattle.sr_gen.specs.Connections.{connection_number, ready, StandsAt};
+    ghost use Rattle.sr_gen.specs.Connections.{ready, StandsAt};
+    ghost use Rattle.sr_gen.specs.Turns.{connection_number};
 
     /// Before the first packet of the capture made from this number.
     pub fn new(number: u64) -> Connections
@@ -33,7 +34,7 @@ impl Connections {
     }
 
     /// The connection of packet `t`, from 0, once those of all packets before it were taken.
-    pub fn next(&mut self, t: u32) -> Connection
+    pub fn take(&mut self, t: u32) -> Connection
         requires { t < 4194304 }
         ensures connection { (number : ℕ) → StandsAt number t self.old → result ≡ connection_of number (connection_number t) }
         ensures after { (number : ℕ) → StandsAt number t self.old → StandsAt number (t + 1) self.new }

@@ -7,17 +7,17 @@
 //! | `connection` | a connection, by its place and the number that is drawn for it |
 //! | `connections` | whose turn it is: ten rounds over a hundred connections, and then over the next hundred |
 //! | `record` | a packet's record: its header and its segment |
-//! | `making` | the whole capture, written record by record |
+//! | `capture` | the whole capture, written record by record |
 #![tactic(auto)]
 
+mod capture;
 mod connection;
 mod connections;
 mod generator;
-mod making;
 mod record;
 
+pub use capture::make;
 pub use generator::Generator;
-pub use making::make;
 
 #[cfg(test)]
 mod tests;

@@ -1,5 +1,5 @@
 ghost use Rattle.std.specs.Prelude.{◌≡◌, ◌<◌};
-ghost use Rattle.sr_gen.specs.Connections.{round_of};
+ghost use Rattle.sr_gen.specs.Turns.{round_of};
 ghost use Rattle.sr_gen.specs.Record.{flags_of, record_with};
 
 use crate::connection::Connection;

@@ -1,8 +1,8 @@
 use Rattle.std.proofs.Common.{◌-◌, ◌≤◌}
 use Rattle.sr_io.proofs.Writing.{Wrote}
 use Rattle.sr_gen.specs.Connections.{StandsAt}
-use Rattle.sr_gen.specs.Making.{records_from}
-use Rattle.sr_gen.proofs.making.write_records.Given as goal
+use Rattle.sr_gen.specs.Capture.{records_from}
+use Rattle.sr_gen.proofs.capture.write_records.Given as goal
 
 abbrev pub invariant-loop-t : goal.invariant-loop-t
 invariant-loop-t g l =

@@ -1,5 +1,5 @@
 ghost use Rattle.std.specs.Prelude.{◌≡◌, ◌≤◌};
-ghost use Rattle.sr_gen.specs.Making.{capture_of, records_from};
+ghost use Rattle.sr_gen.specs.Capture.{capture_of, records_from};
 ghost use Rattle.sr_io.specs.Faults.{Rose};
 ghost use Rattle.sr_io.specs.Sink.{Puts};
 ghost use Rattle.sr_io.specs.declared.sink.Put.TheVariants.{Failed};
@@ -15,7 +15,7 @@ const HEADER: [u8; 24] = [
 
 /// Writes the capture of so many packets that is made from this number: its header in one write, and each packet's record in one. It takes
 /// no memory, and doesn't flush. Failed comes where the sink fails; a prefix of the capture was taken then, and nothing more is written.
-#[tactic(auto, unfolding(crate::specs::Making::capture_of))]
+#[tactic(auto, unfolding(crate::specs::Capture::capture_of))]
 pub fn make<K: Sink>(number: u64, packets: u32, sink: &mut K) -> Put
     requires some { 1 ≤ packets }
     requires few { packets ≤ 4194304 }
@@ -38,7 +38,7 @@ fn write_records<K: Sink>(number: u64, packets: u32, sink: &mut K) -> Put
 {
     let mut connections = Connections::new(number);
     for t in 0..packets {
-        match sink.write(&record(t, connections.next(t))) {
+        match sink.write(&record(t, connections.take(t))) {
             Put::All => {}
             Put::Failed => return Put::Failed,
         }
