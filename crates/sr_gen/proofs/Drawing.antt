@@ -1,6 +1,5 @@
 -- Whose turn it is, from one packet to the next.
-use Rattle.std.proofs.Common.{◌≡◌, ℕ, ◌+◌, ◌*◌, ◌/◌, ◌%◌, ap, refl, add-one, arith}
-use Rattle.sr_gen.specs.declared.connections.Connections.{Connections}
+use Rattle.std.proofs.Common.{◌≡◌, ℕ, ◌+◌, ◌*◌, ◌/◌, ap, refl, add-one, arith}
 use Rattle.sr_gen.specs.Generator.{next_state, drawn, state_after}
 use Rattle.sr_gen.specs.Connection.{connection_with, connection_of}
 use Rattle.sr_gen.specs.Connections.{StandsAt}

@@ -1,5 +1,5 @@
 -- Where a walk over the packets, in capture order, stands in the draws of their connections.
-use Rattle.std.specs.Prelude.{◌≡◌, ◌≢◌, ℕ, ◌+◌, ◌*◌, ◌/◌, ◌%◌}
+use Rattle.std.specs.Prelude.{◌≡◌, ◌≢◌, ℕ, ◌*◌, ◌/◌, ◌%◌}
 use Rattle.sr_gen.specs.declared.connections.Connections.{Connections}
 use Rattle.sr_gen.specs.Generator.{state_after}
 use Rattle.sr_gen.specs.Turns.{connection_number}

@@ -14,7 +14,7 @@ const HEADER: [u8; 24] = [
 ];
 
 /// Writes the capture of so many packets that is made from this number: its header in one write, and each packet's record in one. It takes
-/// no memory, and doesn't flush. Failed comes where the sink fails; a prefix of the capture was taken then, and nothing more is written.
+/// no memory, and doesn't flush. Failed comes where the sink fails; a prefix of the capture was taken then.
 #[tactic(auto, unfolding(crate::specs::Capture::capture_of))]
 pub fn make<K: Sink>(number: u64, packets: u32, sink: &mut K) -> Put
     requires some { 1 ≤ packets }

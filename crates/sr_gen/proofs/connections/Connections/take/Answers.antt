@@ -1,4 +1,4 @@
-use Rattle.std.proofs.Common.{◌≡◌, ◌+◌, ◌*◌, ◌/◌, ◌%◌, ap, subst, sym, ◌∙◌, arith}
+use Rattle.std.proofs.Common.{◌≡◌, ◌+◌, ◌*◌, ◌/◌, ◌%◌, ap, ◌∙◌, arith}
 use Rattle.sr_gen.specs.Generator.{next_state, state_after}
 use Rattle.sr_gen.specs.Turns.{connection_number}
 use Rattle.sr_gen.proofs.Drawing.{state_more, connection_drawn, stands_next}
