@@ -4,10 +4,15 @@
 
 mod check_refusal;
 mod choice;
+mod clashing;
 mod clause;
+mod downs;
+mod filter;
+mod full;
 mod giving;
 mod givings;
 mod groups;
+mod holding;
 mod keys;
 mod laws;
 mod line;
@@ -20,6 +25,7 @@ mod own_pools;
 mod pools;
 mod ranges;
 mod rising;
+mod rows;
 mod same;
 mod server;
 mod setup;
