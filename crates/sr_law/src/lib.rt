@@ -2,6 +2,7 @@
 //! did; the definitions in `specs/` judge a line by the lines before it.
 #![tactic(auto)]
 
+mod cause;
 mod check_refusal;
 mod choice;
 mod clashing;
@@ -24,12 +25,14 @@ mod order;
 mod own_pools;
 mod pools;
 mod ranges;
+mod retire;
 mod rising;
 mod rows;
 mod same;
 mod server;
 mod setup;
 mod sweep;
+mod sweeps;
 mod taking;
 mod takings;
 mod ticks;
