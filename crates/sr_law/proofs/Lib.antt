@@ -1,3 +1,4 @@
 pub mod Endings
 pub mod Newest
 pub mod OneServer
+pub mod Told

@@ -23,6 +23,8 @@ mod opening;
 mod openings;
 mod order;
 mod own_pools;
+mod packets;
+mod pairs;
 mod pools;
 mod ranges;
 mod retire;
