@@ -1,5 +1,5 @@
 -- One line more among those whose Ending packets are looked over.
-use Rattle.std.proofs.Common.{◌≡◌, Bool, ◌||◌, List, ◌∷◌, ◌++◌}
+use Rattle.std.proofs.Common.{◌≡◌, Bool, ◌||◌, List, ◌∷◌}
 use Rattle.std.specs.List.{list_any}
 use Rattle.std.proofs.lemmas.List.Folds.{list_any-append}
 use Rattle.sr_law.specs.declared.line.Line.{Line}

@@ -1,5 +1,5 @@
 -- What the hashes need of a shape.
-use Rattle.std.specs.Prelude.{ℕ, ◌≤◌}
+use Rattle.std.specs.Prelude.{◌≤◌}
 use Rattle.sr_base.specs.declared.shape.Shape.{Shape}
 
 -- there is a bucket, a digest has at most 16 bits, the filter has a bit, and there is a group of rows

@@ -2,6 +2,7 @@
 //! did; the definitions in `specs/` judge a line by the lines before it.
 #![tactic(auto)]
 
+mod auditor;
 mod cause;
 mod check_refusal;
 mod choice;
@@ -40,6 +41,7 @@ mod takings;
 mod ticks;
 mod verdict;
 
+pub use auditor::{check, check_plain};
 pub use check_refusal::CheckRefusal;
 pub use choice::Choice;
 pub use clause::Clause;

@@ -1,4 +1,4 @@
-use Rattle.std.proofs.Common.{◌≡◌, length, take, drop, reverse, sym, ap, ◌∙◌}
+use Rattle.std.proofs.Common.{take, drop, reverse, sym, ap, ◌∙◌}
 use Rattle.std.proofs.Math.Seq.{take-length}
 use Rattle.std.proofs.lemmas.List.{length-drop}
 use Rattle.sr_law.proofs.Newest.{without_first}
