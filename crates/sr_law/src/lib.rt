@@ -38,6 +38,8 @@ mod sweep;
 mod sweeps;
 mod taking;
 mod takings;
+#[cfg(test)]
+mod tests;
 mod ticks;
 mod verdict;
 
