@@ -18,19 +18,19 @@ use Rattle.sr_law.specs.Lawful.{broken, NoLineBreaks, IsLawful, breach_at, breac
 use Rattle.sr_law.specs.Retire.{EndingPacket, endings_of}
 use Rattle.sr_law.specs.Setup.{SetupView}
 
-first_parts : (a b : Option CheckRefusal) → breach_first a b ≡ None → (a ≡ None) × (b ≡ None)
+pub first_parts : (a b : Option CheckRefusal) → breach_first a b ≡ None → (a ≡ None) × (b ≡ None)
 first_parts None b e = (refl, e)
 first_parts (Some breach) b e = absurd (none-some breach (sym e))
 
-first_none : (a b : Option CheckRefusal) → a ≡ None → b ≡ None → breach_first a b ≡ None
+pub first_none : (a b : Option CheckRefusal) → a ≡ None → b ≡ None → breach_first a b ≡ None
 first_none None b p q = q
 first_none (Some breach) b p q = absurd (none-some breach (sym p))
 
-at_none : (n : ℕ) (clause : Option Clause) → breach_at n clause ≡ None → clause ≡ None
+pub at_none : (n : ℕ) (clause : Option Clause) → breach_at n clause ≡ None → clause ≡ None
 at_none n None e = refl
 at_none n (Some clause) e = absurd (none-some (Breach n clause) (sym e))
 
-none_at : (n : ℕ) (clause : Option Clause) → clause ≡ None → breach_at n clause ≡ None
+pub none_at : (n : ℕ) (clause : Option Clause) → clause ≡ None → breach_at n clause ≡ None
 none_at n None e = refl
 none_at n (Some clause) e = absurd (none-some clause (sym e))
 

@@ -1,5 +1,5 @@
-//! The worked rows, judged: each list is lawful for its setup, and each edit of it is refused at the line and with the clause that follow
-//! from the definitions.
+//! The worked rows, judged. Each row is a text: the numbers of its setup that differ from the scene's, the lines of a lawful list, and edits
+//! of it, each with the line and the clause that follow from the definitions.
 
 use crate::{CheckRefusal, Clause, HeldBy, Line, Pools, Setup, Verdict, check, check_plain};
 use sr_base::{Change, Key, Kind, Layout, Packet, Place, Pool, Shape, Version, What};
@@ -7,55 +7,402 @@ use sr_hash::bucket;
 use std::alloc::Global;
 use std::test::Fail;
 
-// The keys A to F.
-const A: Key = Key {
-    vip: 0,
-    ip: 0x0a00_0009,
-    port: 4000,
-};
+// Lines are written as they are printed, but for keys, which are A to F, and places. `edit 3 order 3 LINE` puts another line at the place of
+// line 3, and then line 3 breaks Order; `drop` leaves the line out; `ok` in place of a clause says that the list is still lawful.
+const ROWS: [&str; 10] = [
+    // Repeated SYN.
+    "give 1 0 0 1
+packet 1 2 3 0 A open to 0 0 1
+packet 2 4 5 0 A open to 0 0 1
+reserve 6 A slot
+place 8 A slot
+packet 3 10 11 0 A open held clash
+answer 12 0 1 A to 0 0 1
+edit 3 order 3 packet 2 3 5 0 A open to 0 0 1
+edit 7 server 7 answer 12 0 1 A to 1 0 1
+edit 6 cause 6 packet 3 10 11 0 A open held hold
+drop 7 final 7",
+    // Clash to full key, and no place: a row that is only reserved; a row that is taken; a row that wasn't reserved; the same answer twice.
+    "give 1 0 0 1
+packet 1 2 3 0 A open to 0 0 1
+reserve 4 A slot
+place 6 A slot
+packet 2 8 9 0 B open held clash
+reserve 10 B f0
+place 12 B f0
+answer 14 0 1 B to 0 0 1
+packet 3 15 16 0 C open held clash
+reserve 17 C f1
+place 19 C f1
+answer 21 0 2 C to 0 0 1
+packet 4 22 23 0 D open held clash
+reserve 24 D f2
+place 26 D f2
+answer 28 0 3 D to 0 0 1
+packet 5 29 30 0 E open held clash
+reserve 31 E f3
+place 33 E f3
+answer 35 0 4 E to 0 0 1
+packet 6 36 37 0 F open held clash
+answer 38 0 5 F noplace
+drop 19 cause 21
+edit 10 order 10 reserve 17 C f0
+edit 7 order 7 place 12 B f1
+edit 12 final 23 answer 21 0 1 C to 0 0 1",
+    // A late clash is withdrawn: the slot is still taken; it is taken by the other key; the row has its entry.
+    "give 1 0 0 1
+packet 1 2 3 0 A open to 0 0 1
+packet 2 4 5 0 B open to 0 0 1
+reserve 6 A slot
+clear 8 A slot
+reserve 9 A f0
+place 11 A f0
+reserve 13 B slot
+place 15 B slot
+drop 5 order 7
+edit 5 order 5 clear 8 B slot
+edit 8 order 8 place 13 A f0",
+    // An update: the last group may be cut short; the version is in use; the pool wasn't the last given; nothing was recorded before the
+    // hold; an open connection keeps its pool; the opener came after the switch; no entry clashes; nothing set the filter; a connection that
+    // is opened after the switch uses the new pool.
+    "change 1
+give 1 0 0 1
+give 2 0 1 2
+record 3 0
+packet 1 5 6 0 A open to 0 0 1
+hold 7 0
+switch 9 0 2
+packet 2 11 12 0 A data to 0 0 1
+packet 3 13 14 0 B open held transit
+reserve 15 B f0
+place 17 B f0
+answer 19 0 1 B to 1 1 2
+reserve 20 A slot
+place 22 A slot
+finish 24 0
+drop 14 ok 0
+edit 2 number 2 give 2 0 0 2
+edit 6 order 6 switch 9 0 1
+drop 3 order 4
+edit 7 same 7 packet 2 11 12 0 A data to 1 1 2
+edit 8 cause 8 packet 3 13 14 0 B open held hold
+edit 8 cause 8 packet 3 13 14 0 B open held clash
+drop 4 cause 7
+edit 11 newer 11 answer 19 0 1 B to 0 0 1",
+    // Ring full: only an opener; only where the ring may be full.
+    "ring 1
+give 1 0 0 1
+packet 1 2 3 0 A open to 0 0 1
+packet 2 4 5 0 B open full
+edit 3 cause 3 packet 2 4 5 0 B data full
+drop 2 cause 2",
+    // Version numbers: an open connection has the version; there is no such version; one sweep isn't a quiet time; sweeps are numbered, and an
+    // idle time apart.
+    "versions 2
+change 1
+change 0
+give 1 0 0 1
+packet 1 2 3 0 A open to 0 0 1
+reserve 4 A slot
+place 6 A slot
+give 8 0 1 2
+record 9 0
+hold 11 0
+switch 13 0 2
+finish 15 0
+sweep 1 17 18 1
+sweep 2 19 20 2
+retire 21 A
+clear 22 A slot
+give 25 0 0 3
+record 26 0
+drop 12 number 13
+edit 14 number 14 give 25 0 2 3
+drop 11 retire 11
+edit 11 retire 11 sweep 3 19 20 2
+edit 11 retire 11 sweep 2 19 20 1",
+    // A change is refused where both versions are in use, and so isn't before the update.
+    "versions 2
+change 1
+change 0
+give 1 0 0 1
+packet 1 2 3 0 A open to 0 0 1
+give 8 0 1 2
+record 9 0
+hold 11 0
+switch 13 0 2
+finish 15 0
+refuse 17 1
+drop 2 cause 7
+edit 3 cause 3 refuse 8 1",
+    // Close, down, opened anew: without an end it must be quiet for three sweeps; another connection isn't open; it was never placed; the
+    // server is known to be down; it isn't down.
+    "lives 3
+give 1 0 0 1
+packet 1 2 3 0 A open to 0 0 1
+packet 2 4 5 0 A end to 0 0 1
+reserve 6 A slot
+place 8 A slot
+sweep 1 10 11 1
+sweep 2 12 13 2
+retire 14 A
+clear 15 A slot
+packet 3 17 18 0 A open to 0 0 1
+down 19 0
+sweep 3 20 21 5
+reserve 22 A slot
+place 24 A slot
+packet 4 26 27 0 A data down 0 0 1
+edit 3 retire 8 packet 2 4 5 0 A data to 0 0 1
+edit 8 retire 8 retire 14 B
+drop 5 retire 7
+edit 15 cause 15 packet 4 26 27 0 A data to 0 0 1
+drop 11 cause 14",
+    // Quiet: an end may be printed after the retirement that it supports; a connection that sends isn't quiet; openers don't count.
+    "lives 2
+pipes 2
+give 1 0 0 1
+packet 1 2 3 0 A open to 0 0 1
+reserve 6 A slot
+place 8 A slot
+sweep 1 10 11 1
+packet 2 12 13 0 B data to 0 0 1
+sweep 2 14 15 2
+retire 16 A
+packet 3 5 18 1 A end to 0 0 1
+edit 9 retire 8 packet 3 5 18 1 A data to 0 0 1
+edit 6 retire 8 packet 2 12 13 0 A data to 0 0 1
+edit 6 final 10 packet 2 12 13 0 A open to 0 0 1",
+    // A move: the place isn't one of the key; the place wasn't taken.
+    "buckets 2
+give 1 0 0 1
+packet 1 2 3 0 A open to 0 0 1
+reserve 4 A home
+place 6 A home
+packet 2 8 9 0 G open held clash
+reserve 10 A over
+place 12 A over
+clear 14 A home
+reserve 15 G then
+place 17 G then
+answer 19 0 1 G to 0 0 1
+edit 9 order 9 reserve 15 G over
+drop 6 order 6",
+];
 
-const B: Key = Key {
-    vip: 0,
-    ip: 0x0a00_000a,
-    port: 4000,
-};
+// The words of a line of a row.
+fn words<'a>(alloc: Global, text: &'a str) -> Result<Vec<&'a str>, Fail> {
+    Ok(text.split_whitespace().collect::<Vec<&'a str>>(alloc)?)
+}
 
-const C: Key = Key {
-    vip: 0,
-    ip: 0x0a00_000b,
-    port: 4000,
-};
+fn word<'a>(words: &[&'a str], i: usize) -> &'a str {
+    match words.get(i) {
+        Some(word) => *word,
+        None => "",
+    }
+}
 
-const D: Key = Key {
-    vip: 0,
-    ip: 0x0a00_000c,
-    port: 4000,
-};
+fn number(words: &[&str], i: usize) -> u64 {
+    match word(words, i).parse::<u64>() {
+        Ok(n) => n,
+        Err(_) => 0,
+    }
+}
 
-const E: Key = Key {
-    vip: 0,
-    ip: 0x0a00_000d,
-    port: 4000,
-};
+fn small(words: &[&str], i: usize) -> u8 {
+    (number(words, i) % 64) as u8
+}
 
-const F: Key = Key {
-    vip: 0,
-    ip: 0x0a00_000e,
-    port: 4000,
-};
+fn mid(words: &[&str], i: usize) -> u32 {
+    (number(words, i) % (1 << 20)) as u32
+}
 
-// The only slot of the scene that the rows use.
-const SLOT: Place = Place::Slot {
-    way: 1,
-    bucket: 0,
-    cell: 0,
-};
+fn version(words: &[&str], i: usize) -> Version {
+    match Version::new(small(words, i)) {
+        Some(version) => version,
+        None => unreachable!(),
+    }
+}
 
-const CLASH: Verdict = Verdict::Held(HeldBy::Clash);
+// The key of a letter: A to F, and G, which has A's bucket of way 1 but not of way 2, where there are two.
+fn key(words: &[&str], i: usize) -> Key {
+    let letter = word(words, i);
+    let (ip, port) = match letter {
+        "A" => (9, 4000),
+        "B" => (10, 4000),
+        "C" => (11, 4000),
+        "D" => (12, 4000),
+        "E" => (13, 4000),
+        "F" => (14, 4000),
+        _ => (14, 1024),
+    };
+    Key {
+        vip: 0,
+        ip: 0x0a00_0000 + ip,
+        port,
+    }
+}
 
-const HOLD: Verdict = Verdict::Held(HeldBy::Hold);
+fn place(words: &[&str], i: usize) -> Place {
+    let a = Key {
+        vip: 0,
+        ip: 0x0a00_0009,
+        port: 4000,
+    };
+    let g = Key {
+        vip: 0,
+        ip: 0x0a00_000e,
+        port: 1024,
+    };
+    match word(words, i) {
+        "f0" => Place::Row { row: 0 },
+        "f1" => Place::Row { row: 1 },
+        "f2" => Place::Row { row: 2 },
+        "f3" => Place::Row { row: 3 },
+        "home" => Place::Slot {
+            way: 1,
+            bucket: bucket(1, a, 2),
+            cell: 0,
+        },
+        "over" => Place::Slot {
+            way: 2,
+            bucket: bucket(2, a, 2),
+            cell: 0,
+        },
+        "then" => Place::Slot {
+            way: 2,
+            bucket: bucket(2, g, 2),
+            cell: 0,
+        },
+        _ => Place::Slot {
+            way: 1,
+            bucket: 0,
+            cell: 0,
+        },
+    }
+}
 
-const TRANSIT: Verdict = Verdict::Held(HeldBy::Transit);
+fn kind(words: &[&str], i: usize) -> Kind {
+    match word(words, i) {
+        "open" => Kind::Opener,
+        "end" => Kind::Ending,
+        _ => Kind::Carry,
+    }
+}
+
+fn held_by(words: &[&str], i: usize) -> HeldBy {
+    match word(words, i) {
+        "clash" => HeldBy::Clash,
+        "hold" => HeldBy::Hold,
+        _ => HeldBy::Transit,
+    }
+}
+
+// The verdict from this word on; there are fewer than a hundred words.
+fn verdict(words: &[&str], at: u8) -> Verdict {
+    let i = at as usize;
+    match word(words, i) {
+        "to" => Verdict::To {
+            server: mid(words, i + 1),
+            version: version(words, i + 2),
+            pool: number(words, i + 3),
+        },
+        "down" => Verdict::Down {
+            server: mid(words, i + 1),
+            version: version(words, i + 2),
+            pool: number(words, i + 3),
+        },
+        "held" => Verdict::Held(held_by(words, i + 1)),
+        "full" => Verdict::Full,
+        _ => Verdict::NoPlace,
+    }
+}
+
+// The line of these words. None where the first is no line's.
+fn line(words: &[&str]) -> Option<Line> {
+    let out = number(words, 1);
+    let vip = small(words, 2);
+    match word(words, 0) {
+        "packet" => Some(Line::Packet {
+            number: mid(words, 1),
+            entered: number(words, 2),
+            out: number(words, 3),
+            pipe: small(words, 4),
+            key: key(words, 5),
+            kind: kind(words, 6),
+            verdict: verdict(words, 7),
+        }),
+        "answer" => Some(Line::Answer {
+            out,
+            pipe: vip,
+            nth: mid(words, 3),
+            key: key(words, 4),
+            verdict: verdict(words, 5),
+        }),
+        "give" => Some(Line::Given {
+            out,
+            vip,
+            version: version(words, 3),
+            pool: number(words, 4),
+        }),
+        "record" => Some(Line::Recorded { out, vip }),
+        "hold" => Some(Line::Hold { out, vip }),
+        "switch" => Some(Line::Switched {
+            out,
+            vip,
+            pool: number(words, 3),
+        }),
+        "finish" => Some(Line::Finished { out, vip }),
+        "down" => Some(Line::TakenDown {
+            out,
+            server: mid(words, 2),
+        }),
+        "reserve" => Some(Line::Reserved {
+            out,
+            key: key(words, 2),
+            place: place(words, 3),
+        }),
+        "place" => Some(Line::Placed {
+            out,
+            key: key(words, 2),
+            place: place(words, 3),
+        }),
+        "clear" => Some(Line::Cleared {
+            out,
+            key: key(words, 2),
+            place: place(words, 3),
+        }),
+        "sweep" => Some(Line::Swept {
+            number: number(words, 1),
+            from: number(words, 2),
+            to: number(words, 3),
+            at_ms: number(words, 4),
+        }),
+        "retire" => Some(Line::Retired {
+            out,
+            key: key(words, 2),
+        }),
+        "refuse" => Some(Line::Refused {
+            out,
+            change: mid(words, 2),
+        }),
+        _ => None,
+    }
+}
+
+fn clause(words: &[&str], i: usize) -> Option<Clause> {
+    match word(words, i) {
+        "order" => Some(Clause::Order),
+        "server" => Some(Clause::Server),
+        "same" => Some(Clause::Same),
+        "newer" => Some(Clause::Newer),
+        "number" => Some(Clause::Number),
+        "cause" => Some(Clause::Cause),
+        "retire" => Some(Clause::Retire),
+        "final" => Some(Clause::Final),
+        _ => None,
+    }
+}
 
 // The scene's shape: all keys clash in both ways.
 fn scene() -> Shape {
@@ -74,87 +421,79 @@ fn scene() -> Shape {
     }
 }
 
-fn version(n: u8) -> Version {
-    match Version::new(n % 64) {
-        Some(version) => version,
-        None => unreachable!(),
+// What a row says: a shape, the servers of the pools that its changes give, and the lines of the list.
+#[derive(Drop)]
+struct Row {
+    shape: Shape,
+    given: Vec<u32>,
+    lines: Vec<Line>,
+}
+
+impl Row {
+    // One line of the row's text.
+    fn take(&mut self, words: &[&str]) -> Result<(), Fail> {
+        match word(words, 0) {
+            "pipes" => self.shape.pipes = small(words, 1),
+            "buckets" => self.shape.buckets = mid(words, 1),
+            "versions" => self.shape.versions = small(words, 1),
+            "ring" => self.shape.ring = mid(words, 1),
+            "lives" => self.shape.lives = small(words, 1),
+            "change" => self.given.push(mid(words, 1))?,
+            _ => {
+                if let Some(line) = line(words) {
+                    self.lines.push(line)?;
+                }
+            }
+        }
+        Ok(())
     }
-}
 
-fn to(server: u32, n: u8, pool: u64) -> Verdict {
-    Verdict::To {
-        server,
-        version: version(n),
-        pool,
+    // All lines of the row's text.
+    fn read(alloc: Global, text: &str) -> Result<Row, Fail> {
+        let mut row = Row {
+            shape: scene(),
+            given: Vec::new(alloc),
+            lines: Vec::new(alloc),
+        };
+        for line in text.split('\n') {
+            row.take(words(alloc, line)?.as_slice())?;
+        }
+        Ok(row)
     }
-}
 
-fn down_to(server: u32, n: u8, pool: u64) -> Verdict {
-    Verdict::Down {
-        server,
-        version: version(n),
-        pool,
+    // Its setup: the first pool and those that the changes give have one server each, and the packets are those that the lines tell of.
+    fn setup(&self, alloc: Global) -> Result<Setup, Fail> {
+        let mut first = Vec::new(alloc);
+        first.push(pool(alloc, 0)?)?;
+        let mut given = Vec::new(alloc);
+        for server in &self.given {
+            given.push(Change {
+                at_ms: 0,
+                what: What::Give {
+                    vip: 0,
+                    pool: pool(alloc, *server)?,
+                },
+            })?;
+        }
+        let mut packets = Vec::new(alloc);
+        for line in &self.lines {
+            if let Line::Packet {
+                number,
+                key,
+                kind,
+                ..
+            } = *line
+            {
+                packets.push(Packet { number, key, kind })?;
+            }
+        }
+        Ok(Setup {
+            shape: self.shape,
+            servers: 2,
+            pools: Pools::new(alloc, first.as_slice(), given.as_slice())?,
+            packets,
+        })
     }
-}
-
-fn packet(number: u32, entered: u64, out: u64, key: Key, kind: Kind, verdict: Verdict) -> Line {
-    Line::Packet {
-        number,
-        entered,
-        out,
-        pipe: 0,
-        key,
-        kind,
-        verdict,
-    }
-}
-
-fn opens(number: u32, entered: u64, out: u64, key: Key, verdict: Verdict) -> Line {
-    packet(number, entered, out, key, Kind::Opener, verdict)
-}
-
-fn answer(out: u64, nth: u32, key: Key, verdict: Verdict) -> Line {
-    Line::Answer {
-        out,
-        pipe: 0,
-        nth,
-        key,
-        verdict,
-    }
-}
-
-fn give(out: u64, n: u8, pool: u64) -> Line {
-    Line::Given {
-        out,
-        vip: 0,
-        version: version(n),
-        pool,
-    }
-}
-
-fn reserve(out: u64, key: Key, place: Place) -> Line {
-    Line::Reserved { out, key, place }
-}
-
-fn place(out: u64, key: Key, place: Place) -> Line {
-    Line::Placed { out, key, place }
-}
-
-fn clear(out: u64, key: Key, place: Place) -> Line {
-    Line::Cleared { out, key, place }
-}
-
-fn sweep(number: u64, from: u64, to: u64, at_ms: u64) -> Line {
-    Line::Swept {
-        number,
-        from,
-        to,
-        at_ms,
-    }
-}
-
-fn row(row: u32) -> Place {
-    Place::Row { row }
 }
 
 fn pool(alloc: Global, server: u32) -> Result<Pool, Fail> {
@@ -164,657 +503,99 @@ fn pool(alloc: Global, server: u32) -> Result<Pool, Fail> {
     }
 }
 
-// The setup of a shape and of changes that give these servers, each a pool of its own, with the packets that the lines tell of.
-fn setup(alloc: Global, shape: Shape, changes: &[u32], lines: &[Line]) -> Result<Setup, Fail> {
-    let mut first = Vec::new(alloc);
-    first.push(pool(alloc, 0)?)?;
-    let mut given = Vec::new(alloc);
-    for server in changes {
-        given.push(Change {
-            at_ms: 0,
-            what: What::Give {
-                vip: 0,
-                pool: pool(alloc, *server)?,
-            },
-        })?;
-    }
-    let mut packets = Vec::new(alloc);
-    for line in lines {
-        if let Line::Packet {
-            number,
-            key,
-            kind,
-            ..
-        } = *line
-        {
-            packets.push(Packet { number, key, kind })?;
-        }
-    }
-    Ok(Setup {
-        shape,
-        servers: 2,
-        pools: Pools::new(alloc, first.as_slice(), given.as_slice())?,
-        packets,
-    })
-}
-
-// What the plain auditor answers, as the line and the clause that are broken first, or 0.
-fn judged(alloc: Global, setup: &Setup, lines: &[Line]) -> (usize, Clause) {
+// What the plain auditor answers: the line and the clause that are broken first. A setup that it can't take is Text at 0.
+fn judged(setup: &Setup, lines: &[Line]) -> Option<(usize, Clause)> {
     let vips = setup.pools.vips();
-    if 16 < vips {
-        return (0, Clause::Text);
-    }
-    if Layout::new(setup.shape, vips as u8, setup.servers).is_err() {
-        return (0, Clause::Text);
+    if 16 < vips || Layout::new(setup.shape, vips as u8, setup.servers).is_err() {
+        return Some((0, Clause::Text));
     }
     match check_plain(setup, lines) {
-        Ok(()) => (0, Clause::Final),
-        Err(CheckRefusal::Breach { line, clause }) => (line, clause),
-        Err(CheckRefusal::Memory) => (0, Clause::Text),
+        Ok(()) => None,
+        Err(CheckRefusal::Breach { line, clause }) => Some((line, clause)),
+        Err(CheckRefusal::Memory) => Some((0, Clause::Text)),
     }
 }
 
-const LAWFUL: (usize, Clause) = (0, Clause::Final);
-
-// The lines with another one at this position, from 1.
-fn with(alloc: Global, lines: &[Line], number: usize, line: Line) -> Result<Vec<Line>, Fail> {
-    let mut edited = Vec::new(alloc);
-    for (i, old) in lines.iter().enumerate() {
-        edited.push(if i + 1 == number { line } else { *old })?;
-    }
-    Ok(edited)
-}
-
-// The lines without the one at this position, from 1.
-fn without(alloc: Global, lines: &[Line], number: usize) -> Result<Vec<Line>, Fail> {
-    let mut edited = Vec::new(alloc);
-    for (i, old) in lines.iter().enumerate() {
-        if i + 1 != number {
-            edited.push(*old)?;
+// The lines with another one, or none, at this position, from 1.
+fn edited(
+    alloc: Global,
+    lines: &[Line],
+    number: u64,
+    line: Option<Line>,
+) -> Result<Vec<Line>, Fail> {
+    let mut after = Vec::new(alloc);
+    let mut position = 0u64;
+    for old in lines {
+        position = position.saturating_add(1);
+        if position != number {
+            after.push(*old)?;
+        } else if let Some(line) = line {
+            after.push(line)?;
         }
     }
-    Ok(edited)
+    Ok(after)
 }
 
-#[test]
-fn repeated_syn(rt: HostRuntime) -> Result<(), Fail> {
-    let alloc = rt.alloc();
-    let lines = [
-        give(1, 0, 1),
-        opens(1, 2, 3, A, to(0, 0, 1)),
-        opens(2, 4, 5, A, to(0, 0, 1)),
-        reserve(6, A, SLOT),
-        place(8, A, SLOT),
-        opens(3, 10, 11, A, CLASH),
-        answer(12, 1, A, to(0, 0, 1)),
-    ];
-    let setup = setup(alloc, scene(), &[], &lines)?;
-    assert_eq!(rt; judged(alloc, &setup, &lines), LAWFUL);
-    assert_eq!(rt;
-        judged(
+// Whether the list that this line of a row's text edits is judged as it says. A line that edits nothing is.
+fn is_judged_so(alloc: Global, row: &Row, setup: &Setup, words: &[&str]) -> Result<bool, Fail> {
+    let after = match word(words, 0) {
+        "edit" => edited(
             alloc,
-            &setup,
-            with(alloc, &lines, 3, opens(2, 3, 5, A, to(0, 0, 1)))?.as_slice()
-        ),
-        (3, Clause::Order)
-    );
-    assert_eq!(rt;
-        judged(
-            alloc,
-            &setup,
-            with(alloc, &lines, 7, answer(12, 1, A, to(1, 0, 1)))?.as_slice()
-        ),
-        (7, Clause::Server)
-    );
-    assert_eq!(rt;
-        judged(
-            alloc,
-            &setup,
-            with(alloc, &lines, 6, opens(3, 10, 11, A, HOLD))?.as_slice()
-        ),
-        (6, Clause::Cause)
-    );
-    assert_eq!(rt;
-        judged(alloc, &setup, without(alloc, &lines, 7)?.as_slice()),
-        (7, Clause::Final)
-    );
-    Ok(())
-}
-
-#[test]
-fn clash_to_full_key_and_no_place(rt: HostRuntime) -> Result<(), Fail> {
-    let alloc = rt.alloc();
-    let lines = [
-        give(1, 0, 1),
-        opens(1, 2, 3, A, to(0, 0, 1)),
-        reserve(4, A, SLOT),
-        place(6, A, SLOT),
-        opens(2, 8, 9, B, CLASH),
-        reserve(10, B, row(0)),
-        place(12, B, row(0)),
-        answer(14, 1, B, to(0, 0, 1)),
-        opens(3, 15, 16, C, CLASH),
-        reserve(17, C, row(1)),
-        place(19, C, row(1)),
-        answer(21, 2, C, to(0, 0, 1)),
-        opens(4, 22, 23, D, CLASH),
-        reserve(24, D, row(2)),
-        place(26, D, row(2)),
-        answer(28, 3, D, to(0, 0, 1)),
-        opens(5, 29, 30, E, CLASH),
-        reserve(31, E, row(3)),
-        place(33, E, row(3)),
-        answer(35, 4, E, to(0, 0, 1)),
-        opens(6, 36, 37, F, CLASH),
-        answer(38, 5, F, Verdict::NoPlace),
-    ];
-    let setup = setup(alloc, scene(), &[], &lines)?;
-    assert_eq!(rt; judged(alloc, &setup, &lines), LAWFUL);
-    // The last row is only reserved, so there may be a place.
-    assert_eq!(rt;
-        judged(alloc, &setup, without(alloc, &lines, 19)?.as_slice()),
-        (21, Clause::Cause)
-    );
-    // The row has an entry.
-    assert_eq!(rt;
-        judged(
-            alloc,
-            &setup,
-            with(alloc, &lines, 10, reserve(17, C, row(0)))?.as_slice()
-        ),
-        (10, Clause::Order)
-    );
-    // Another row was reserved.
-    assert_eq!(rt;
-        judged(
-            alloc,
-            &setup,
-            with(alloc, &lines, 7, place(12, B, row(1)))?.as_slice()
-        ),
-        (7, Clause::Order)
-    );
-    // The second answer is to the first held opener again.
-    assert_eq!(rt;
-        judged(
-            alloc,
-            &setup,
-            with(alloc, &lines, 12, answer(21, 1, C, to(0, 0, 1)))?.as_slice()
-        ),
-        (23, Clause::Final)
-    );
-    Ok(())
-}
-
-#[test]
-fn late_clash_is_withdrawn(rt: HostRuntime) -> Result<(), Fail> {
-    let alloc = rt.alloc();
-    let lines = [
-        give(1, 0, 1),
-        opens(1, 2, 3, A, to(0, 0, 1)),
-        opens(2, 4, 5, B, to(0, 0, 1)),
-        reserve(6, A, SLOT),
-        clear(8, A, SLOT),
-        reserve(9, A, row(0)),
-        place(11, A, row(0)),
-        reserve(13, B, SLOT),
-        place(15, B, SLOT),
-    ];
-    let setup = setup(alloc, scene(), &[], &lines)?;
-    assert_eq!(rt; judged(alloc, &setup, &lines), LAWFUL);
-    // The slot is still taken.
-    assert_eq!(rt;
-        judged(alloc, &setup, without(alloc, &lines, 5)?.as_slice()),
-        (7, Clause::Order)
-    );
-    // It is taken by the other key.
-    assert_eq!(rt;
-        judged(
-            alloc,
-            &setup,
-            with(alloc, &lines, 5, clear(8, B, SLOT))?.as_slice()
-        ),
-        (5, Clause::Order)
-    );
-    // It was placed already.
-    assert_eq!(rt;
-        judged(
-            alloc,
-            &setup,
-            with(alloc, &lines, 8, place(13, A, row(0)))?.as_slice()
-        ),
-        (8, Clause::Order)
-    );
-    Ok(())
-}
-
-#[test]
-fn update(rt: HostRuntime) -> Result<(), Fail> {
-    let alloc = rt.alloc();
-    let lines = [
-        give(1, 0, 1),
-        give(2, 1, 2),
-        Line::Recorded { out: 3, vip: 0 },
-        opens(1, 5, 6, A, to(0, 0, 1)),
-        Line::Hold { out: 7, vip: 0 },
-        Line::Switched {
-            out: 9,
-            vip: 0,
-            pool: 2,
-        },
-        packet(2, 11, 12, A, Kind::Carry, to(0, 0, 1)),
-        opens(3, 13, 14, B, TRANSIT),
-        reserve(15, B, row(0)),
-        place(17, B, row(0)),
-        answer(19, 1, B, to(1, 1, 2)),
-        reserve(20, A, SLOT),
-        place(22, A, SLOT),
-        Line::Finished { out: 24, vip: 0 },
-    ];
-    let setup = setup(alloc, scene(), &[1], &lines)?;
-    assert_eq!(rt; judged(alloc, &setup, &lines), LAWFUL);
-    // The last group may be cut short.
-    assert_eq!(rt;
-        judged(alloc, &setup, without(alloc, &lines, 14)?.as_slice()),
-        LAWFUL
-    );
-    // The version is in use.
-    assert_eq!(rt;
-        judged(
-            alloc,
-            &setup,
-            with(alloc, &lines, 2, give(2, 0, 2))?.as_slice()
-        ),
-        (2, Clause::Number)
-    );
-    // The pool wasn't the last given.
-    let old = Line::Switched {
-        out: 9,
-        vip: 0,
-        pool: 1,
+            row.lines.as_slice(),
+            number(words, 1),
+            line(rest(words, 4)),
+        )?,
+        "drop" => edited(alloc, row.lines.as_slice(), number(words, 1), None)?,
+        _ => return Ok(true),
     };
-    assert_eq!(rt;
-        judged(alloc, &setup, with(alloc, &lines, 6, old)?.as_slice()),
-        (6, Clause::Order)
-    );
-    // Nothing was recorded before the hold.
-    assert_eq!(rt;
-        judged(alloc, &setup, without(alloc, &lines, 3)?.as_slice()),
-        (4, Clause::Order)
-    );
-    // An open connection keeps its pool.
-    let newer = packet(2, 11, 12, A, Kind::Carry, to(1, 1, 2));
-    assert_eq!(rt;
-        judged(alloc, &setup, with(alloc, &lines, 7, newer)?.as_slice()),
-        (7, Clause::Same)
-    );
-    // The opener came after the switch, and no clash can have held it.
-    assert_eq!(rt;
-        judged(
-            alloc,
-            &setup,
-            with(alloc, &lines, 8, opens(3, 13, 14, B, HOLD))?.as_slice()
-        ),
-        (8, Clause::Cause)
-    );
-    assert_eq!(rt;
-        judged(
-            alloc,
-            &setup,
-            with(alloc, &lines, 8, opens(3, 13, 14, B, CLASH))?.as_slice()
-        ),
-        (8, Clause::Cause)
-    );
-    // Nothing set the filter.
-    assert_eq!(rt;
-        judged(alloc, &setup, without(alloc, &lines, 4)?.as_slice()),
-        (7, Clause::Cause)
-    );
-    // A connection that is opened after the switch uses the new pool.
-    assert_eq!(rt;
-        judged(
-            alloc,
-            &setup,
-            with(alloc, &lines, 11, answer(19, 1, B, to(0, 0, 1)))?.as_slice()
-        ),
-        (11, Clause::Newer)
-    );
-    Ok(())
+    let want = match clause(words, 2) {
+        Some(clause) => Some((number(words, 3) as usize, clause)),
+        None => None,
+    };
+    Ok(judged(setup, after.as_slice()) == want)
+}
+
+// The words from this one on.
+fn rest<'a>(words: &'a [&'a str], from: usize) -> &'a [&'a str] {
+    if from <= words.len() {
+        &words[from..]
+    } else {
+        words
+    }
 }
 
 #[test]
-fn ring_full(rt: HostRuntime) -> Result<(), Fail> {
+fn rows_are_judged(rt: HostRuntime) -> Result<(), Fail> {
     let alloc = rt.alloc();
-    let lines = [
-        give(1, 0, 1),
-        opens(1, 2, 3, A, to(0, 0, 1)),
-        opens(2, 4, 5, B, Verdict::Full),
-    ];
-    let one_cell = Shape { ring: 1, ..scene() };
-    let setup_one = setup(alloc, one_cell, &[], &lines)?;
-    assert_eq!(rt; judged(alloc, &setup_one, &lines), LAWFUL);
-    let data = packet(2, 4, 5, B, Kind::Carry, Verdict::Full);
-    assert_eq!(rt;
-        judged(alloc, &setup_one, with(alloc, &lines, 3, data)?.as_slice()),
-        (3, Clause::Cause)
-    );
-    assert_eq!(rt;
-        judged(alloc, &setup_one, without(alloc, &lines, 2)?.as_slice()),
-        (2, Clause::Cause)
-    );
-    // The ring has room for more.
-    let setup_eight = setup(alloc, scene(), &[], &lines)?;
-    assert_eq!(rt; judged(alloc, &setup_eight, &lines), (3, Clause::Cause));
-    Ok(())
-}
-
-#[test]
-fn version_numbers(rt: HostRuntime) -> Result<(), Fail> {
-    let alloc = rt.alloc();
-    let lines = [
-        give(1, 0, 1),
-        opens(1, 2, 3, A, to(0, 0, 1)),
-        reserve(4, A, SLOT),
-        place(6, A, SLOT),
-        give(8, 1, 2),
-        Line::Recorded { out: 9, vip: 0 },
-        Line::Hold { out: 11, vip: 0 },
-        Line::Switched {
-            out: 13,
-            vip: 0,
-            pool: 2,
-        },
-        Line::Finished { out: 15, vip: 0 },
-        sweep(1, 17, 18, 1),
-        sweep(2, 19, 20, 2),
-        Line::Retired { out: 21, key: A },
-        clear(22, A, SLOT),
-        give(25, 0, 3),
-        Line::Recorded { out: 26, vip: 0 },
-    ];
-    let two = Shape {
-        versions: 2,
-        ..scene()
-    };
-    let setup_two = setup(alloc, two, &[1, 0], &lines)?;
-    assert_eq!(rt; judged(alloc, &setup_two, &lines), LAWFUL);
-    // An open connection has the version.
-    assert_eq!(rt;
-        judged(alloc, &setup_two, without(alloc, &lines, 12)?.as_slice()),
-        (13, Clause::Number)
-    );
-    // There is no such version.
-    assert_eq!(rt;
-        judged(
-            alloc,
-            &setup_two,
-            with(alloc, &lines, 14, give(25, 2, 3))?.as_slice()
-        ),
-        (14, Clause::Number)
-    );
-    // One sweep isn't a quiet time; the sweeps are numbered, and one idle time apart.
-    assert_eq!(rt;
-        judged(alloc, &setup_two, without(alloc, &lines, 11)?.as_slice()),
-        (11, Clause::Retire)
-    );
-    assert_eq!(rt;
-        judged(
-            alloc,
-            &setup_two,
-            with(alloc, &lines, 11, sweep(3, 19, 20, 2))?.as_slice()
-        ),
-        (11, Clause::Retire)
-    );
-    assert_eq!(rt;
-        judged(
-            alloc,
-            &setup_two,
-            with(alloc, &lines, 11, sweep(2, 19, 20, 1))?.as_slice()
-        ),
-        (11, Clause::Retire)
-    );
-    // The change is refused where both versions are in use.
-    let refused = with(
-        alloc,
-        &lines[..10],
-        10,
-        Line::Refused { out: 17, change: 1 },
-    )?;
-    assert_eq!(rt; judged(alloc, &setup_two, refused.as_slice()), LAWFUL);
-    let setup_four = setup(alloc, scene(), &[1, 0], &lines)?;
-    assert_eq!(rt;
-        judged(alloc, &setup_four, refused.as_slice()),
-        (10, Clause::Cause)
-    );
-    Ok(())
-}
-
-#[test]
-fn close_down_and_opened_anew(rt: HostRuntime) -> Result<(), Fail> {
-    let alloc = rt.alloc();
-    let lines = [
-        give(1, 0, 1),
-        opens(1, 2, 3, A, to(0, 0, 1)),
-        packet(2, 4, 5, A, Kind::Ending, to(0, 0, 1)),
-        reserve(6, A, SLOT),
-        place(8, A, SLOT),
-        sweep(1, 10, 11, 1),
-        sweep(2, 12, 13, 2),
-        Line::Retired { out: 14, key: A },
-        clear(15, A, SLOT),
-        opens(3, 17, 18, A, to(0, 0, 1)),
-        Line::TakenDown { out: 19, server: 0 },
-        sweep(3, 20, 21, 5),
-        reserve(22, A, SLOT),
-        place(24, A, SLOT),
-        packet(4, 26, 27, A, Kind::Carry, down_to(0, 0, 1)),
-    ];
-    let three = Shape {
-        lives: 3,
-        ..scene()
-    };
-    let setup = setup(alloc, three, &[], &lines)?;
-    assert_eq!(rt; judged(alloc, &setup, &lines), LAWFUL);
-    // Without an end it must be quiet for three sweeps.
-    let data = packet(2, 4, 5, A, Kind::Carry, to(0, 0, 1));
-    assert_eq!(rt;
-        judged(alloc, &setup, with(alloc, &lines, 3, data)?.as_slice()),
-        (8, Clause::Retire)
-    );
-    // Another connection isn't open.
-    assert_eq!(rt;
-        judged(
-            alloc,
-            &setup,
-            with(alloc, &lines, 8, Line::Retired { out: 14, key: B })?.as_slice()
-        ),
-        (8, Clause::Retire)
-    );
-    // It was never placed.
-    assert_eq!(rt;
-        judged(alloc, &setup, without(alloc, &lines, 5)?.as_slice()),
-        (7, Clause::Retire)
-    );
-    // The server is known to be down.
-    let sent = packet(4, 26, 27, A, Kind::Carry, to(0, 0, 1));
-    assert_eq!(rt;
-        judged(alloc, &setup, with(alloc, &lines, 15, sent)?.as_slice()),
-        (15, Clause::Cause)
-    );
-    // It isn't down.
-    assert_eq!(rt;
-        judged(alloc, &setup, without(alloc, &lines, 11)?.as_slice()),
-        (14, Clause::Cause)
-    );
-    Ok(())
-}
-
-#[test]
-fn quiet(rt: HostRuntime) -> Result<(), Fail> {
-    let alloc = rt.alloc();
-    let lines = [
-        give(1, 0, 1),
-        opens(1, 2, 3, A, to(0, 0, 1)),
-        reserve(6, A, SLOT),
-        place(8, A, SLOT),
-        sweep(1, 10, 11, 1),
-        packet(2, 12, 13, B, Kind::Carry, to(0, 0, 1)),
-        sweep(2, 14, 15, 2),
-        Line::Retired { out: 16, key: A },
-    ];
-    let setup = setup(alloc, scene(), &[], &lines)?;
-    assert_eq!(rt; judged(alloc, &setup, &lines), LAWFUL);
-    // It sent between the sweeps.
-    let data = packet(2, 12, 13, A, Kind::Carry, to(0, 0, 1));
-    assert_eq!(rt;
-        judged(alloc, &setup, with(alloc, &lines, 6, data)?.as_slice()),
-        (8, Clause::Retire)
-    );
-    // An opener doesn't count; it isn't the setup's packet, though.
-    let opener = opens(2, 12, 13, A, to(0, 0, 1));
-    assert_eq!(rt;
-        judged(alloc, &setup, with(alloc, &lines, 6, opener)?.as_slice()),
-        (9, Clause::Final)
-    );
-    // It was placed after the first sweep began.
-    assert_eq!(rt;
-        judged(
-            alloc,
-            &setup,
-            with(alloc, &lines, 5, sweep(1, 9, 11, 1))?.as_slice()
-        ),
-        LAWFUL
-    );
-    let late = with(
-        alloc,
-        with(alloc, &lines, 4, sweep(1, 7, 8, 1))?.as_slice(),
-        5,
-        place(11, A, SLOT),
-    )?;
-    assert_eq!(rt; judged(alloc, &setup, late.as_slice()), (8, Clause::Retire));
-    Ok(())
-}
-
-// An end may be printed after the retirement that it supports: it had entered, on another pipe, and wasn't out.
-#[test]
-fn late_end(rt: HostRuntime) -> Result<(), Fail> {
-    let alloc = rt.alloc();
-    let end = |kind: Kind| Line::Packet {
-        number: 2,
-        entered: 4,
-        out: 16,
-        pipe: 1,
-        key: A,
-        kind,
-        verdict: to(0, 0, 1),
-    };
-    let lines = [
-        give(1, 0, 1),
-        opens(1, 2, 3, A, to(0, 0, 1)),
-        reserve(6, A, SLOT),
-        place(8, A, SLOT),
-        sweep(1, 10, 11, 1),
-        sweep(2, 12, 13, 2),
-        Line::Retired { out: 14, key: A },
-        clear(15, A, SLOT),
-        end(Kind::Ending),
-    ];
-    let setup = setup(
-        alloc,
-        Shape {
-            pipes: 2,
-            lives: 3,
-            ..scene()
-        },
-        &[],
-        &lines,
-    )?;
-    assert_eq!(rt; judged(alloc, &setup, &lines), LAWFUL);
-    assert_eq!(rt;
-        judged(
-            alloc,
-            &setup,
-            with(alloc, &lines, 9, end(Kind::Carry))?.as_slice()
-        ),
-        (7, Clause::Retire)
-    );
-    Ok(())
-}
-
-#[test]
-fn a_move(rt: HostRuntime) -> Result<(), Fail> {
-    let alloc = rt.alloc();
-    let other = Key {
-        vip: 0,
-        ip: 0x0a00_000e,
-        port: 1024,
-    };
-    let from = Place::Slot {
-        way: 1,
-        bucket: bucket(1, A, 2),
-        cell: 0,
-    };
-    let over = Place::Slot {
-        way: 2,
-        bucket: bucket(2, A, 2),
-        cell: 0,
-    };
-    let then = Place::Slot {
-        way: 2,
-        bucket: bucket(2, other, 2),
-        cell: 0,
-    };
-    let lines = [
-        give(1, 0, 1),
-        opens(1, 2, 3, A, to(0, 0, 1)),
-        reserve(4, A, from),
-        place(6, A, from),
-        opens(2, 8, 9, other, CLASH),
-        reserve(10, A, over),
-        place(12, A, over),
-        clear(14, A, from),
-        reserve(15, other, then),
-        place(17, other, then),
-        answer(19, 1, other, to(0, 0, 1)),
-    ];
-    let setup = setup(
-        alloc,
-        Shape {
-            buckets: 2,
-            ..scene()
-        },
-        &[],
-        &lines,
-    )?;
-    assert_eq!(rt; judged(alloc, &setup, &lines), LAWFUL);
-    // The place isn't one of the key.
-    assert_eq!(rt;
-        judged(
-            alloc,
-            &setup,
-            with(alloc, &lines, 9, reserve(15, other, over))?.as_slice()
-        ),
-        (9, Clause::Order)
-    );
-    // The place wasn't taken.
-    assert_eq!(rt;
-        judged(alloc, &setup, without(alloc, &lines, 6)?.as_slice()),
-        (6, Clause::Order)
-    );
+    for text in ROWS {
+        let row = Row::read(alloc, text)?;
+        let setup = row.setup(alloc)?;
+        assert!(rt;
+            judged(&setup, row.lines.as_slice()).is_none(),
+            "not lawful: {text}"
+        );
+        for line in text.split('\n') {
+            assert!(rt;
+                is_judged_so(alloc, &row, &setup, words(alloc, line)?.as_slice())?,
+                "{line}"
+            );
+        }
+    }
     Ok(())
 }
 
 #[test]
 fn check_answers_as_check_plain(rt: HostRuntime) -> Result<(), Fail> {
     let alloc = rt.alloc();
-    let lines = [give(1, 0, 1), opens(1, 2, 3, A, to(0, 0, 1))];
-    let setup = setup(alloc, scene(), &[], &lines)?;
+    let row = Row::read(alloc, "give 1 0 0 1\npacket 1 2 3 0 A open to 0 0 1")?;
+    let setup = row.setup(alloc)?;
     assert!(rt; setup.pools.vips() <= 16);
     assert!(rt; Layout::new(setup.shape, setup.pools.vips() as u8, setup.servers).is_ok());
-    assert_eq!(rt; check(alloc, &setup, &lines), Ok(()));
+    assert_eq!(rt; check(alloc, &setup, row.lines.as_slice()), Ok(()));
     assert_eq!(rt;
-        check(alloc, &setup, &lines[..1]),
+        check(alloc, &setup, &[]),
         Err(CheckRefusal::Breach {
-            line: 2,
+            line: 1,
             clause: Clause::Final
         })
     );
