@@ -20,7 +20,7 @@ use Rattle.sr_law.proofs.OneServer.{one_server}
 
 module _ (setup : SetupView) (endings : List EndingPacket) (lines : List Line) (met : NoLineBreaks setup endings lines) where
   -- each line meets the clauses
-  met_at : (i : ℕ) (d : Line) → i < length lines → Meets setup endings (reverse (take i lines)) (get_or lines i d)
+  pub met_at : (i : ℕ) (d : Line) → i < length lines → Meets setup endings (reverse (take i lines)) (get_or lines i d)
   met_at i d h = meets setup endings (reverse (take i lines)) (get_or lines i d) (met i (get_or lines i d) (slice_get-get_or lines i d h))
 
   -- so the first n name the right servers

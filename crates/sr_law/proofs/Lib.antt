@@ -5,4 +5,5 @@ pub mod Kept
 pub mod Newest
 pub mod OneServer
 pub mod Shapes
+pub mod Switches
 pub mod Told

@@ -122,7 +122,7 @@ pub fn check_plain(setup: &Setup, lines: &[Line]) -> Result<(), CheckRefusal>
 }
 
 /// Judges a list of printed lines as `check_plain` does, or answers that there is no memory.
-pub fn check(_alloc: Global, setup: &Setup, lines: &[Line]) -> Result<(), CheckRefusal>
+pub fn check(alloc: Global, setup: &Setup, lines: &[Line]) -> Result<(), CheckRefusal>
     requires { limit_of setup.now.shape (length setup.now.pools) setup.now.servers ≡ None }
     ensures { MatchResult result (λ _. IsLawful setup.now lines.now) (λ refusal. (refusal ≡ Memory) ⊎ (breach_of setup.now lines.now ≡ Some refusal)) }
 {

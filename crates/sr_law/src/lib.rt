@@ -48,7 +48,7 @@ pub use check_refusal::CheckRefusal;
 pub use choice::Choice;
 pub use clause::Clause;
 pub use giving::Giving;
-pub use laws::{keeps_server, names_a_breach, one_more_line};
+pub use laws::{keeps_server, names_a_breach, one_more_line, opens_newer};
 pub use line::Line;
 pub use opening::Opening;
 pub use pools::Pools;

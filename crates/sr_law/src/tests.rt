@@ -1,6 +1,8 @@
 //! The worked rows, judged. Each row is a text: the numbers of its setup that differ from the scene's, the lines of a lawful list, and edits
 //! of it, each with the line and the clause that follow from the definitions.
 
+ghost use Rattle.std.specs.Prelude.{◌<◌};
+
 use crate::{CheckRefusal, Clause, HeldBy, Line, Pools, Setup, Verdict, check, check_plain};
 use sr_base::{Change, Key, Kind, Layout, Packet, Place, Pool, Shape, Version, What};
 use sr_hash::bucket;
@@ -209,7 +211,9 @@ fn number(words: &[&str], i: usize) -> u64 {
     }
 }
 
-fn small(words: &[&str], i: usize) -> u8 {
+fn small(words: &[&str], i: usize) -> u8
+    ensures { result < 64 }
+{
     (number(words, i) % 64) as u8
 }
 
@@ -298,9 +302,10 @@ fn held_by(words: &[&str], i: usize) -> HeldBy {
     }
 }
 
-// The verdict from this word on; there are fewer than a hundred words.
-fn verdict(words: &[&str], at: u8) -> Verdict {
-    let i = at as usize;
+// The verdict from this word on.
+fn verdict(words: &[&str], i: usize) -> Verdict
+    requires { i < 1000 }
+{
     match word(words, i) {
         "to" => Verdict::To {
             server: mid(words, i + 1),
@@ -318,75 +323,84 @@ fn verdict(words: &[&str], at: u8) -> Verdict {
     }
 }
 
-// The line of these words. None where the first is no line's.
-fn line(words: &[&str]) -> Option<Line> {
-    let out = number(words, 1);
-    let vip = small(words, 2);
-    match word(words, 0) {
-        "packet" => Some(Line::Packet {
-            number: mid(words, 1),
-            entered: number(words, 2),
-            out: number(words, 3),
-            pipe: small(words, 4),
-            key: key(words, 5),
-            kind: kind(words, 6),
-            verdict: verdict(words, 7),
-        }),
-        "answer" => Some(Line::Answer {
+// The line of the words from this one on.
+fn line(words: &[&str], at: u8) -> Line {
+    let i = at as usize;
+    let out = number(words, i + 1);
+    let vip = small(words, i + 2);
+    match word(words, i) {
+        "packet" => Line::Packet {
+            number: mid(words, i + 1),
+            entered: number(words, i + 2),
+            out: number(words, i + 3),
+            pipe: small(words, i + 4),
+            key: key(words, i + 5),
+            kind: kind(words, i + 6),
+            verdict: verdict(words, i + 7),
+        },
+        "answer" => Line::Answer {
             out,
             pipe: vip,
-            nth: mid(words, 3),
-            key: key(words, 4),
-            verdict: verdict(words, 5),
-        }),
-        "give" => Some(Line::Given {
+            nth: mid(words, i + 3),
+            key: key(words, i + 4),
+            verdict: verdict(words, i + 5),
+        },
+        "give" => Line::Given {
             out,
             vip,
-            version: version(words, 3),
-            pool: number(words, 4),
-        }),
-        "record" => Some(Line::Recorded { out, vip }),
-        "hold" => Some(Line::Hold { out, vip }),
-        "switch" => Some(Line::Switched {
+            version: version(words, i + 3),
+            pool: number(words, i + 4),
+        },
+        "record" => Line::Recorded { out, vip },
+        "hold" => Line::Hold { out, vip },
+        "switch" => Line::Switched {
             out,
             vip,
-            pool: number(words, 3),
-        }),
-        "finish" => Some(Line::Finished { out, vip }),
-        "down" => Some(Line::TakenDown {
+            pool: number(words, i + 3),
+        },
+        "finish" => Line::Finished { out, vip },
+        "down" => Line::TakenDown {
             out,
-            server: mid(words, 2),
-        }),
-        "reserve" => Some(Line::Reserved {
+            server: mid(words, i + 2),
+        },
+        "reserve" => Line::Reserved {
             out,
-            key: key(words, 2),
-            place: place(words, 3),
-        }),
-        "place" => Some(Line::Placed {
+            key: key(words, i + 2),
+            place: place(words, i + 3),
+        },
+        "place" => Line::Placed {
             out,
-            key: key(words, 2),
-            place: place(words, 3),
-        }),
-        "clear" => Some(Line::Cleared {
+            key: key(words, i + 2),
+            place: place(words, i + 3),
+        },
+        "clear" => Line::Cleared {
             out,
-            key: key(words, 2),
-            place: place(words, 3),
-        }),
-        "sweep" => Some(Line::Swept {
-            number: number(words, 1),
-            from: number(words, 2),
-            to: number(words, 3),
-            at_ms: number(words, 4),
-        }),
-        "retire" => Some(Line::Retired {
+            key: key(words, i + 2),
+            place: place(words, i + 3),
+        },
+        "sweep" => Line::Swept {
+            number: number(words, i + 1),
+            from: number(words, i + 2),
+            to: number(words, i + 3),
+            at_ms: number(words, i + 4),
+        },
+        "retire" => Line::Retired {
             out,
-            key: key(words, 2),
-        }),
-        "refuse" => Some(Line::Refused {
+            key: key(words, i + 2),
+        },
+        _ => Line::Refused {
             out,
-            change: mid(words, 2),
-        }),
-        _ => None,
+            change: mid(words, i + 2),
+        },
+    }
+}
+
+// The first word is a line's, and no number's of the setup, and no edit's.
+fn is_line(words: &[&str]) -> bool {
+    match word(words, 0) {
+        "edit" => false,
+        "drop" => false,
+        _ => true,
     }
 }
 
@@ -440,8 +454,8 @@ impl Row {
             "lives" => self.shape.lives = small(words, 1),
             "change" => self.given.push(mid(words, 1))?,
             _ => {
-                if let Some(line) = line(words) {
-                    self.lines.push(line)?;
+                if is_line(words) {
+                    self.lines.push(line(words, 0))?;
                 }
             }
         }
@@ -516,51 +530,52 @@ fn judged(setup: &Setup, lines: &[Line]) -> Option<(usize, Clause)> {
     }
 }
 
-// The lines with another one, or none, at this position, from 1.
-fn edited(
-    alloc: Global,
-    lines: &[Line],
-    number: u64,
-    line: Option<Line>,
-) -> Result<Vec<Line>, Fail> {
+// The lines with these in place of the one at this position, from 1.
+fn edited(alloc: Global, lines: &[Line], number: u64, new: &[Line]) -> Result<Vec<Line>, Fail> {
     let mut after = Vec::new(alloc);
     let mut position = 0u64;
     for old in lines {
         position = position.saturating_add(1);
-        if position != number {
+        if position == number {
+            after.extend_from_slice(new)?;
+        } else {
             after.push(*old)?;
-        } else if let Some(line) = line {
-            after.push(line)?;
         }
     }
     Ok(after)
 }
 
+// The line that an edit puts in, or none.
+fn put_in(alloc: Global, words: &[&str]) -> Result<Vec<Line>, Fail> {
+    let mut new = Vec::new(alloc);
+    if word(words, 0) == "edit" {
+        new.push(line(words, 4))?;
+    }
+    Ok(new)
+}
+
+// What an edit says that the auditor answers.
+fn wanted(words: &[&str]) -> Option<(usize, Clause)> {
+    match clause(words, 2) {
+        Some(clause) => Some((number(words, 3) as usize, clause)),
+        None => None,
+    }
+}
+
 // Whether the list that this line of a row's text edits is judged as it says. A line that edits nothing is.
 fn is_judged_so(alloc: Global, row: &Row, setup: &Setup, words: &[&str]) -> Result<bool, Fail> {
-    let after = match word(words, 0) {
-        "edit" => edited(
+    let first = word(words, 0);
+    if first == "edit" || first == "drop" {
+        let new = put_in(alloc, words)?;
+        let after = edited(
             alloc,
             row.lines.as_slice(),
             number(words, 1),
-            line(rest(words, 4)),
-        )?,
-        "drop" => edited(alloc, row.lines.as_slice(), number(words, 1), None)?,
-        _ => return Ok(true),
-    };
-    let want = match clause(words, 2) {
-        Some(clause) => Some((number(words, 3) as usize, clause)),
-        None => None,
-    };
-    Ok(judged(setup, after.as_slice()) == want)
-}
-
-// The words from this one on.
-fn rest<'a>(words: &'a [&'a str], from: usize) -> &'a [&'a str] {
-    if from <= words.len() {
-        &words[from..]
+            new.as_slice(),
+        )?;
+        Ok(judged(setup, after.as_slice()) == wanted(words))
     } else {
-        words
+        Ok(true)
     }
 }
 
