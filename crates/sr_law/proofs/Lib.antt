@@ -1,2 +1,9 @@
+pub mod Breaches
+pub mod Clauses
+pub mod Endings
+pub mod Kept
 pub mod Newest
 pub mod OneServer
+pub mod Shapes
+pub mod Switches
+pub mod Told

@@ -35,7 +35,7 @@ abbrev pub same_packet : Packet → Packet → Bool
 same_packet a b = (a.number == b.number) && same_key a.key b.key && same_kind a.kind b.kind
 
 -- a packet is there as often in one list as in the other
-abbrev pub is_as_often : List Packet → List Packet → Packet → Bool
+unfoldable pub is_as_often : List Packet → List Packet → Packet → Bool
 is_as_often xs ys packet = count_by (same_packet packet) xs == count_by (same_packet packet) ys
 
 -- two lists have the same packets
@@ -53,7 +53,7 @@ answers_rightly pipe nth key entered (Answer out at n of_key verdict) = (at == p
 answers_rightly pipe nth key entered line = false
 
 -- there is one such answer, and it is right
-abbrev pub is_answered : List Line → ℕ → ℕ → KeyView → ℕ → Bool
+unfoldable pub is_answered : List Line → ℕ → ℕ → KeyView → ℕ → Bool
 is_answered all pipe nth key entered = (count_by (answers pipe nth) all == 1) && list_any (answers_rightly pipe nth key entered) all
 
 -- a held opener, the next of its pipe after these lines, has its answer

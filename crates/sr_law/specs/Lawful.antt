@@ -52,7 +52,7 @@ breach_first (Some breach) next = Some breach
 breach_first None next = next
 
 -- the first of these lines that breaks a clause, and the first clause that it breaks; the newest line is given first
-abbrev pub first_broken : SetupView → List EndingPacket → List Line → Option CheckRefusal
+unfoldable pub first_broken : SetupView → List EndingPacket → List Line → Option CheckRefusal
 first_broken setup endings [] = None
 first_broken setup endings (line ∷ before) =
     breach_first (first_broken setup endings before) (breach_at (length before + 1) (broken setup endings before line))

@@ -19,6 +19,7 @@ pub mod Same
 pub mod Server
 pub mod Settled
 pub mod Setup
+pub mod Shaped
 pub mod Taken
 pub mod TakenDown
 pub mod Ticks

@@ -1,6 +1,9 @@
 use Rattle.std.proofs.Common.{reverse}
-use Rattle.sr_law.proofs.OneServer.{one_server}
+use Rattle.sr_law.specs.Retire.{endings_of}
+use Rattle.sr_law.proofs.Kept.{kept}
 use Rattle.sr_law.proofs.laws.keeps_server.Goals as goal
 
 pub returns : goal.returns
-returns c = one_server c.args._pools.now (reverse c.args._lines.now) c.args._line.now c.requires.lines c.requires.server c.requires.same
+returns c =
+    let lines = c.args.lines.now in
+    kept c.args.setup.now (endings_of (reverse lines)) lines c.requires.0

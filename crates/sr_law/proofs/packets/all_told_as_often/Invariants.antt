@@ -1,0 +1,7 @@
+use Rattle.std.proofs.Common.{◌≡◌, reverse, take}
+use Rattle.std.specs.List.{list_all}
+use Rattle.sr_law.specs.Final.{is_as_often, packets_of}
+use Rattle.sr_law.proofs.packets.all_told_as_often.Given as goal
+
+abbrev pub invariant-loop-line : goal.invariant-loop-line
+invariant-loop-line l = l.all ≡ list_all (is_as_often (packets_of (reverse l.lines)) l.packets) (packets_of (reverse (take l.line-index l.lines)))

@@ -1,0 +1,83 @@
+ghost use Rattle.std.specs.Prelude.{◌≡◌, ◌≤◌, reverse};
+ghost use Rattle.std.specs.List.{list_any};
+ghost use Rattle.sr_law.specs.Held.{matches_entry, is_between, clears_between, reserves_against, may_clash};
+
+use crate::Line;
+use crate::keys::{clashes, same_key, same_place};
+use sr_base::{Key, Place, Shape};
+
+// A packet of this key matches the other key's entry at this place.
+fn matches_entry(shape: &Shape, c: Key, key: Key, place: Place) -> bool
+    requires buckets { 1 ≤ shape.now.buckets }
+    requires bits { shape.now.digest_bits ≤ 16 }
+    ensures { result ≡ matches_entry shape.now c key place }
+{
+    match place {
+        Place::Slot { way, .. } => clashes(shape, way, key, c),
+        Place::Row { .. } => same_key(key, c),
+    }
+}
+
+// Strictly between two ticks.
+pub(crate) fn is_between(low: u64, high: u64, tick: u64) -> bool
+    ensures { result ≡ is_between low high tick }
+{
+    low < tick && tick < high
+}
+
+// The entry of this key at this place was cleared between two ticks.
+fn clears_between(key: Key, place: Place, low: u64, high: u64, line: &Line) -> bool
+    ensures { result ≡ clears_between key place low high line.now }
+{
+    match *line {
+        Line::Cleared {
+            out,
+            key: cleared,
+            place: at,
+        } => same_key(cleared, key) && same_place(at, place) && is_between(low, high, out),
+        _ => false,
+    }
+}
+
+// Some line clears it between two ticks.
+#[tactic(auto, using(crate::proofs::Newest::newest_more))]
+fn any_clears_between(before: &[Line], key: Key, place: Place, low: u64, high: u64) -> bool
+    ensures { result ≡ list_any (clears_between key place low high) (reverse before.now) }
+{
+    let mut any = false;
+    for line in before {
+        if clears_between(key, place, low, high, line) {
+            any = true;
+        }
+    }
+    any
+}
+
+// The line reserves a place for an entry that this key matches, and the entry isn't cleared before this tick.
+fn reserves_against(shape: &Shape, before: &[Line], c: Key, start: u64, line: &Line) -> bool
+    requires buckets { 1 ≤ shape.now.buckets }
+    requires bits { shape.now.digest_bits ≤ 16 }
+    ensures { result ≡ reserves_against shape.now (reverse before.now) c start line.now }
+{
+    match *line {
+        Line::Reserved { out, key, place } => matches_entry(shape, c, key, place)
+            && !any_clears_between(before, key, place, out, start),
+        _ => false,
+    }
+}
+
+// An entry that the opener matches may have stood in the tables at its start.
+#[tactic(auto, using(crate::proofs::Newest::newest_more))]
+pub(crate) fn may_clash(shape: &Shape, before: &[Line], c: Key, start: u64) -> bool
+    requires buckets { 1 ≤ shape.now.buckets }
+    requires bits { shape.now.digest_bits ≤ 16 }
+    ensures { result ≡ may_clash shape.now (reverse before.now) c start }
+{
+    let mut any = false;
+    for line in before {
+        if reserves_against(shape, before, c, start, line) {
+            any = true;
+        }
+    }
+    any
+}
