@@ -44,7 +44,13 @@ fn main(rt: HostRuntime) -> ExitCode {
                     let mut shelf = FileShelf::new(&rt);
                     let mut sink = WriteSink::new(writer);
                     run(
-                        &rt, alloc, &words, &mut source, &mut shelf, &mut sink, &OpenGate,
+                        &rt,
+                        alloc,
+                        &words,
+                        &mut source,
+                        &mut shelf,
+                        &mut sink,
+                        &OpenGate,
                     )
                 }
                 _ => Status::Memory,

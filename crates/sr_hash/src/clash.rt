@@ -37,5 +37,7 @@ pub fn clashes(shape: &Shape, way: u8, a: Key, b: Key) -> bool
     ensures matched { ClashIsMatch shape.now way a b }
 {
     let bits = shape.digest_bits;
-    a.vip == b.vip && bucket(way, a, shape.buckets) == bucket(way, b, shape.buckets) && digest(way, a, bits) == digest(way, b, bits)
+    a.vip == b.vip
+        && bucket(way, a, shape.buckets) == bucket(way, b, shape.buckets)
+        && digest(way, a, bits) == digest(way, b, bits)
 }

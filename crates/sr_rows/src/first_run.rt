@@ -7,7 +7,8 @@ use std::test::Fail;
 const DATA_ALONE: &[u8] =
     b"silkroad 1\ngive 1 0 0 1\npacket 1 2 3 0 0/10.0.0.9:4000 data to 0 0 1\n";
 
-const SKIPPED: &[u8] = b"silkroad 1\nskip 1 nottcp\nskip 2 notvip\ngive 1 0 0 1\npacket 3 2 3 0 0/10.0.0.9:4000 open to 0 0 1\n";
+const SKIPPED: &[u8] =
+    b"silkroad 1\nskip 1 nottcp\nskip 2 notvip\ngive 1 0 0 1\npacket 3 2 3 0 0/10.0.0.9:4000 open to 0 0 1\n";
 
 #[test]
 fn two_packets(rt: HostRuntime) -> Result<(), Fail> {

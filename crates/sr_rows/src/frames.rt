@@ -76,7 +76,10 @@ fn most_captured_bytes(rt: HostRuntime) -> Result<(), Fail> {
 fn too_many_captured_bytes(rt: HostRuntime) -> Result<(), Fail> {
     let input = zeros(rt.alloc(), 262_145, 0)?;
     let played = play(&rt, rt.alloc(), row_of(&input, 4096))?;
-    assert_eq!(rt; played.status, Status::Capture(CaptureRefusal::TooLong { offset: 24 }));
+    assert_eq!(rt;
+        played.status,
+        Status::Capture(CaptureRefusal::TooLong { offset: 24 })
+    );
     assert_eq!(rt; played.output.as_slice(), HEAD);
     Ok(())
 }

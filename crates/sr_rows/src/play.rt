@@ -30,7 +30,8 @@ pub const OPENED: &[u8] =
     b"silkroad 1\ngive 1 0 0 1\npacket 1 2 3 0 0/10.0.0.9:4000 open to 0 0 1\n";
 
 /// The log of the first run.
-pub const FIRST: &[u8] = b"silkroad 1\ngive 1 0 0 1\npacket 1 2 3 0 0/10.0.0.9:4000 open to 0 0 1\npacket 2 4 5 0 0/10.0.0.9:4000 data to 0 0 1\n";
+pub const FIRST: &[u8] =
+    b"silkroad 1\ngive 1 0 0 1\npacket 1 2 3 0 0/10.0.0.9:4000 open to 0 0 1\npacket 2 4 5 0 0/10.0.0.9:4000 data to 0 0 1\n";
 
 /// What came of a row.
 #[derive(Drop)]
@@ -62,7 +63,13 @@ pub fn play<R: Threads + Sync>(rt: &R, alloc: Global, row: Row) -> Result<Played
     let mut shelf = SureShelf::new(Vec::new(alloc));
     let mut sink = MemSink::new(alloc, 65_536, write_fails)?;
     let status = run(
-        rt, alloc, &words, &mut source, &mut shelf, &mut sink, &OpenGate,
+        rt,
+        alloc,
+        &words,
+        &mut source,
+        &mut shelf,
+        &mut sink,
+        &OpenGate,
     );
     let output = Vec::from_slice(alloc, sink.bytes())?;
     Ok(Played { status, output })

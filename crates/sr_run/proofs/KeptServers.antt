@@ -89,15 +89,17 @@ right_server servers key first below =
     ∙ eq-eqb (picked (range_with_len 0 servers) key) (selected servers key) (picks servers key below)
 
 keeps_line : (servers tick : ℕ) (packet : Packet) (before : List Line) → OnPoolOne before → packet.key.vip ≡ 0 → selected servers packet.key < servers → KeepsServer (one_pools servers) before (packet_line servers tick packet)
-keeps_line servers tick packet before held first below =
-    (keeps_one (opening before packet.key) tick (held.opened packet.key),
-     and_both _ _ (ap (λ v. has_pool (last_version before v 0) 1) first ∙ ap (λ o. has_pool o 1) held.given) (right_server servers packet.key first below))
+keeps_line servers tick packet before held first below = (
+  keeps_one (opening before packet.key) tick (held.opened packet.key),
+  and_both _ _ (ap (λ v. has_pool (last_version before v 0) 1) first ∙ ap (λ o. has_pool o 1) held.given) (right_server servers packet.key first below),
+)
 
 keeps_lines : (servers tick : ℕ) (packets : List Packet) (before : List Line) → OnPoolOne before → AllFirstVip packets → ((key : KeyView) → selected servers key < servers) → AllKeep (one_pools servers) before (packet_lines servers tick packets)
 keeps_lines servers tick [] before held first below = tt
-keeps_lines servers tick (packet ∷ packets) before held first below =
-    (keeps_line servers tick packet before held first.0 (below packet.key),
-     keeps_lines servers (tick + 2) packets (packet_line servers tick packet ∷ before) (one_more servers tick packet before held) first.1 below)
+keeps_lines servers tick (packet ∷ packets) before held first below = (
+  keeps_line servers tick packet before held first.0 (below packet.key),
+  keeps_lines servers (tick + 2) packets (packet_line servers tick packet ∷ before) (one_more servers tick packet before held) first.1 below,
+)
 
 -- from the lines one after the other to the lines by their positions
 by_position : (pools : List VipPools) (before rest : List Line) (i : ℕ) (line : Line) → AllKeep pools before rest → slice_get rest i ≡ Some line → KeepsServer pools (reverse (take i rest) ++ before) line
@@ -109,10 +111,10 @@ by_position pools before (l ∷ rest) (suc i) line all at =
 
 -- no line of the command breaks the rules
 pub one_keeps : (servers : ℕ) (packets : List Packet) (i : ℕ) (line : Line) → 1 ≤ servers → AllFirstVip packets → slice_get (one_lines servers packets) i ≡ Some line
-  → KeepsServer (one_pools servers) (lines_before i (one_lines servers packets)) line
+    → KeepsServer (one_pools servers) (lines_before i (one_lines servers packets)) line
 one_keeps servers packets i line some first at =
     let all : AllKeep (one_pools servers) [] (one_lines servers packets) =
-          ((refl, refl), keeps_lines servers 2 packets (opening_line ∷ []) (record { given = refl; opened = λ c. tt }) first (λ key. omega arith)) in
+    ((refl, refl), keeps_lines servers 2 packets (opening_line ∷ []) (record { given = refl; opened = λ c. tt }) first (λ key. omega arith)) in
     subst (λ b. KeepsServer (one_pools servers) b line) (append-nil (reverse (take i (one_lines servers packets)))) (by_position (one_pools servers) [] (one_lines servers packets) i line all at)
 
 keeps_in : (header : Result Format BeginRefusal) (vip : ℕ × ℕ) (servers : ℕ) (bytes : List ℕ) → 1 ≤ servers → KeepServers (one_pools servers) (lines_in header vip servers bytes)

@@ -27,9 +27,9 @@ head_text = codes "silkroad 1\n"
 -- the line's name and its fields, parted by spaces
 unfoldable pub line_text : Line → List ℕ
 line_text (Packet number entered out pipe key kind verdict) =
-  codes "packet " ++ field number (field entered (field out (field pipe (key_text key (32 ∷ kind_text kind (32 ∷ verdict_text verdict ended))))))
+    codes "packet " ++ field number (field entered (field out (field pipe (key_text key (32 ∷ kind_text kind (32 ∷ verdict_text verdict ended))))))
 line_text (Answer out pipe nth key verdict) =
-  codes "answer " ++ field out (field pipe (field nth (key_text key (32 ∷ verdict_text verdict ended))))
+    codes "answer " ++ field out (field pipe (field nth (key_text key (32 ∷ verdict_text verdict ended))))
 line_text (Given out vip version pool) = codes "give " ++ field out (field vip (field version (decimal pool ++ ended)))
 line_text (Recorded out vip) = codes "record " ++ field out (decimal vip ++ ended)
 line_text (Hold out vip) = codes "hold " ++ field out (decimal vip ++ ended)
