@@ -363,5 +363,4 @@ pub fn words_stand_apart(layout: &Layout)
     ensures named { EachPlaceNamed layout.now }
     ensures stand { StoresStand layout.now }
     ensures stores { StoresApart layout.now }
-{
-}
+{}
