@@ -3,7 +3,7 @@ use Rattle.std.proofs.Common.{◌≡◌, ℕ, ◌+◌, ◌*◌, ◌<◌, ◌≤�
 use Rattle.std.proofs.lemmas.Bool.Decides.{nat_tests}
 use Rattle.std.proofs.lemmas.Nat.{mul-add-lt, mul-le, ones-le, row_fits}
 use Rattle.std.specs.Int.{is_power_of_two}
-use Rattle.sr_base.specs.Layout.{LayoutView, IsLayout}
+use Rattle.sr_base.specs.Layout.{IsLayout}
 use Rattle.sr_base.specs.Limit.{between, power_up_to, where_in_range, table_limit_of, other_limit_of, or_limit, limit_of}
 use Rattle.sr_base.specs.declared.shape.Shape.{Shape}
 use Rattle.sr_base.specs.declared.layout.ShapeLimit.{ShapeLimit}

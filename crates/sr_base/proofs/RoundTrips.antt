@@ -1,8 +1,7 @@
 -- The packings of the words and their unpackings, the other way round of each other.
-use Rattle.std.proofs.Common.{◌≡◌, ℕ, ◌+◌, ◌*◌, ◌/◌, ◌%◌, ◌^◌, ◌<◌, Option, Some, None, arith}
+use Rattle.std.proofs.Common.{◌≡◌, ℕ, Some, arith}
 use Rattle.std.proofs.lemmas.Bool.Decides.{nat_tests}
-use Rattle.std.proofs.lemmas.Grind.{common_steps}
-use Rattle.sr_base.specs.Fields.{bits, RoundTrip}
+use Rattle.sr_base.specs.Fields.{RoundTrip}
 use Rattle.sr_base.specs.FullWord.{packed_full, unpacked_full, IsFullWord}
 use Rattle.sr_base.specs.Key.{KeyView, IsKey, key_of, packed}
 use Rattle.sr_base.specs.RingWord.{packed_ring, unpacked_ring, IsRingWord}
@@ -10,11 +9,9 @@ use Rattle.sr_base.specs.RowHead.{packed_head, unpacked_head, IsRowHead}
 use Rattle.sr_base.specs.SlotWord.{packed_slot, unpacked_slot, IsSlotWord}
 use Rattle.sr_base.specs.VipWord.{packed_vip, unpacked_vip, IsVipWord}
 use Rattle.sr_base.specs.declared.full_word.FullWord.{FullWord}
-use Rattle.sr_base.specs.declared.full_word.FullWord.TheVariants as full
 use Rattle.sr_base.specs.declared.ring_word.RingWord.{RingWord}
 use Rattle.sr_base.specs.declared.row_head.RowHead.{RowHead}
 use Rattle.sr_base.specs.declared.slot_word.SlotWord.{SlotWord}
-use Rattle.sr_base.specs.declared.slot_word.SlotWord.TheVariants as slot
 use Rattle.sr_base.specs.declared.vip_word.VipWord.{VipWord}
 
 -- a key's parts are those of its number

@@ -1,12 +1,12 @@
 -- The name of the word at each place. So different names have different places, and each place below the number of words is that of a name.
-use Rattle.std.proofs.Common.{◌≡◌, ◌≢◌, ℕ, ◌+◌, ◌-◌, ◌*◌, ◌/◌, ◌%◌, ◌<◌, ◌≤◌, max, zero, suc, true, false, nat_lt, if◌then◌else◌, List, length, slice_index, refl, sym, ap, subst, ◌∙◌, inl, inr, add_assoc, add-one, mul_comm, lit<, arith}
+use Rattle.std.proofs.Common.{◌≡◌, ℕ, ◌+◌, ◌-◌, ◌*◌, ◌/◌, ◌%◌, ◌<◌, zero, suc, true, false, nat_lt, if◌then◌else◌, refl, sym, ap, subst, ◌∙◌, inl, inr, add_assoc, mul_comm, lit<, arith}
 use Rattle.std.proofs.lemmas.Bool.{cases_lt}
 use Rattle.std.proofs.lemmas.Bool.Decides.{nat_tests}
 use Rattle.std.proofs.lemmas.List.{get_or-set_other, get_or-set_same}
 use Rattle.std.proofs.lemmas.Nat.{mul-add-lt, div-mul-add, mod-mul-add, div_below, mod_below, div-add-mod'}
 use Rattle.sr_base.proofs.Ranges.{pool_fits}
 use Rattle.sr_base.specs.Layout.{LayoutView}
-use Rattle.sr_base.specs.WordName.{filter_words, HasPlace, HasVersion, HasWord, cells_of, entries_of, tick_place, filter_start, pipes_start, vips_start, pools_start, down_start, words_of, entry_number, pipe_start, pool_start, place_of, word_at, with_word, NamesApart, PlacesBelow, EachPlaceNamed, StoresStand, StoresApart}
+use Rattle.sr_base.specs.WordName.{filter_words, HasPlace, HasVersion, HasWord, cells_of, entries_of, tick_place, filter_start, pipes_start, vips_start, pools_start, down_start, entry_number, pipe_start, pool_start, place_of, NamesApart, PlacesBelow, EachPlaceNamed, StoresStand, StoresApart}
 use Rattle.sr_base.specs.declared.place.Place.{Place}
 use Rattle.sr_base.specs.declared.place.Place.TheVariants as place
 use Rattle.sr_base.specs.declared.shape.Shape.{Shape}

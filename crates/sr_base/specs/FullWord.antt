@@ -1,7 +1,7 @@
 -- A row's word of the table of full keys, as a number.
-use Rattle.std.specs.Prelude.{◌≡◌, ℕ, ◌+◌, ◌*◌, ◌/◌, ◌%◌, ◌^◌, ◌<◌, ◌==◌, ◌&&◌, if◌then◌else◌, Option, Some, None}
+use Rattle.std.specs.Prelude.{ℕ, ◌+◌, ◌*◌, ◌/◌, ◌^◌, ◌<◌, ◌==◌, ◌&&◌, if◌then◌else◌, Option, Some, None}
 use Rattle.sr_base.specs.Fields.{bits}
-use Rattle.sr_base.specs.Key.{KeyView, IsKey, key_of, packed}
+use Rattle.sr_base.specs.Key.{IsKey, key_of, packed}
 use Rattle.sr_base.specs.declared.full_word.FullWord.{FullWord}
 use Rattle.sr_base.specs.declared.full_word.FullWord.TheVariants.{Empty, Reserved, Live}
 

@@ -1,5 +1,5 @@
 -- A cell's word of the connection table, as a number.
-use Rattle.std.specs.Prelude.{◌≡◌, ℕ, ◌+◌, ◌*◌, ◌/◌, ◌^◌, ◌<◌, ◌==◌, ◌&&◌, if◌then◌else◌, Option, Some, None}
+use Rattle.std.specs.Prelude.{ℕ, ◌+◌, ◌*◌, ◌/◌, ◌^◌, ◌<◌, ◌==◌, ◌&&◌, if◌then◌else◌, Option, Some, None}
 use Rattle.sr_base.specs.Fields.{bits}
 use Rattle.sr_base.specs.declared.slot_word.SlotWord.{SlotWord}
 use Rattle.sr_base.specs.declared.slot_word.SlotWord.TheVariants.{Empty, Reserved, Live}

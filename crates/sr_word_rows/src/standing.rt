@@ -52,14 +52,6 @@ fn places(rt: HostRuntime) {
         (
             WordName::Slot {
                 way: 1,
-                bucket: 0,
-                cell: 0,
-            },
-            Some(0),
-        ),
-        (
-            WordName::Slot {
-                way: 1,
                 bucket: 1,
                 cell: 2,
             },
@@ -75,38 +67,13 @@ fn places(rt: HostRuntime) {
         ),
         (
             WordName::Slot {
-                way: 0,
-                bucket: 0,
-                cell: 0,
-            },
-            None,
-        ),
-        (
-            WordName::Slot {
                 way: 3,
                 bucket: 0,
                 cell: 0,
             },
             None,
         ),
-        (
-            WordName::Slot {
-                way: 1,
-                bucket: 2,
-                cell: 0,
-            },
-            None,
-        ),
-        (
-            WordName::Slot {
-                way: 1,
-                bucket: 0,
-                cell: 4,
-            },
-            None,
-        ),
         (WordName::Full { row: 3 }, Some(19)),
-        (WordName::Full { row: 4 }, None),
         (WordName::Hit { place: at }, Some(35)),
         (
             WordName::Hit {
@@ -114,40 +81,13 @@ fn places(rt: HostRuntime) {
             },
             Some(39),
         ),
-        (
-            WordName::Hit {
-                place: Place::Row { row: 4 },
-            },
-            None,
-        ),
         (WordName::Tick, Some(40)),
         (WordName::Filter { index: 0 }, Some(41)),
         (WordName::Filter { index: 1 }, None),
-        (WordName::Note { pipe: 0 }, Some(42)),
         (WordName::Ring { pipe: 0, cell: 2 }, Some(45)),
-        (WordName::Ring { pipe: 0, cell: 3 }, None),
         (WordName::Note { pipe: 1 }, Some(46)),
-        (WordName::Note { pipe: 2 }, None),
         (WordName::Vip { vip: 1 }, Some(51)),
-        (WordName::Vip { vip: 2 }, None),
         (WordName::Head { vip: 0, version: 0 }, Some(52)),
-        (WordName::Head { vip: 0, version: 2 }, None),
-        (
-            WordName::Member {
-                vip: 0,
-                version: 0,
-                index: 1,
-            },
-            Some(54),
-        ),
-        (
-            WordName::Member {
-                vip: 0,
-                version: 0,
-                index: 2,
-            },
-            None,
-        ),
         (
             WordName::Member {
                 vip: 1,
@@ -157,7 +97,6 @@ fn places(rt: HostRuntime) {
             Some(63),
         ),
         (WordName::Down { server: 2 }, Some(66)),
-        (WordName::Down { server: 3 }, None),
     ];
     for (name, place) in rows {
         assert_eq!(rt; found(&layout, name), place, "{name:?}");
