@@ -1,5 +1,5 @@
 ghost use Rattle.std.specs.Prelude.{◌≡◌, ℕ, ◌*◌, ◌^◌, ◌<◌, ◌≤◌, MatchOption, Some};
-ghost use Rattle.sr_base.specs.Key.{KeyView, key_of, packed};
+ghost use Rattle.sr_base.specs.Key.{IsKey, KeyView, key_of, packed};
 
 use std::marker::Model;
 
@@ -76,4 +76,11 @@ pub fn unpacks(key: Key) -> Option<Key>
     ensures { result ≡ Some key }
 {
     Key::unpack(key.pack())
+}
+
+/// The ranges of a key's parts.
+pub fn key_ranges(key: Key)
+    ensures { IsKey key }
+{
+    let _ = (key.vip, key.ip, key.port);
 }

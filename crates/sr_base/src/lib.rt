@@ -1,5 +1,6 @@
 //! The words that everything else speaks in: keys of connections, packets, pools of servers and their versions, places of
-//! the tables, changes, and the shape and layout of the tables. Nothing here acts.
+//! the tables, changes, and the shape and layout of the tables; and the 64-bit words that threads share, each as a value that packs to a
+//! number, with their names and where each stands. Nothing here acts.
 #![tactic(auto)]
 
 mod change;
@@ -20,9 +21,9 @@ mod word_name;
 
 pub use change::{Change, What};
 pub use full_word::{FullWord, full_unpacks};
-pub use key::{Key, unpacks};
+pub use key::{Key, key_ranges, unpacks};
 pub use kind::Kind;
-pub use layout::{Layout, ShapeLimit};
+pub use layout::{Layout, ShapeLimit, layout_ranges, words_stand_apart};
 pub use packet::Packet;
 pub use place::Place;
 pub use pool::Pool;

@@ -8,13 +8,14 @@ use crate::version::version_in;
 /// How far the update of a virtual address's pool is (SilkRoad, SIGCOMM 2017: the steps of a pool's update).
 #[derive(Clone, Copy, Debug, PartialEq, Eq)]
 pub enum Phase {
-    /// No update: every packet without an entry goes by the current version.
+    /// No update: packets without an entry go by the current version.
     Steady,
-    /// Openers are sent by the current version and recorded in the transit filter.
+    /// As in Steady, and openers are recorded in the transit filter.
     Recording,
-    /// Openers are held.
+    /// Openers without an entry are held; other packets without one go by the current version.
     Holding,
-    /// Openers that the transit filter tells are held; other packets without an entry that it doesn't tell go by the next version.
+    /// Packets without an entry go by the next version, but for those that the transit filter tells: of these the openers are held, and the
+    /// others go by the current version.
     Transit,
 }
 
