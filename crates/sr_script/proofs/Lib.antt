@@ -6,4 +6,5 @@ pub mod LawLists
 pub mod LawShape
 pub mod LawChanges
 pub mod Law
+pub mod NotToml
 pub mod Parsing

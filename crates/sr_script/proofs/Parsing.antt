@@ -4,9 +4,11 @@ use Rattle.toml.specs.Data.{Members}
 use Rattle.sr_script.specs.declared.script.Script.{Script as script}
 use Rattle.sr_script.specs.declared.refusal.ParseRefusal.{ParseRefusal}
 use Rattle.sr_script.specs.declared.refusal.ParseRefusal.TheVariants.{Script, Memory}
+use Rattle.sr_script.specs.Fault.{fault_of}
 use Rattle.sr_script.specs.Walk.{script_in}
-use Rattle.sr_script.specs.Script.{spelled, IsTree, Parses, IsSpelled, TakesScripts}
+use Rattle.sr_script.specs.Script.{spelled, IsTree, Parses, IsSpelled, TakesScripts, NotTomlIsTrue}
 use Rattle.sr_script.proofs.Law.{walk_spells, spells_walk}
+use Rattle.sr_script.proofs.NotToml.{walk_not_toml}
 
 -- a text has one tree
 one_tree : (bytes : List ℕ) (t u : Members) → IsTree bytes t → IsTree bytes u → t ≡ u
@@ -27,3 +29,9 @@ parses_takes bytes (Err (Script r)) (inl h) t s tree spells =
     cc
 parses_takes bytes (Err (Script r)) (inr h) t s tree spells = h.0 t tree
 parses_takes bytes (Err Memory) h t s tree spells = tt
+
+pub parses_not_toml : (bytes : List ℕ) (answer : Result script ParseRefusal) → Parses bytes answer → NotTomlIsTrue bytes answer
+parses_not_toml bytes (Ok s) h says t tree = says
+parses_not_toml bytes (Err (Script r)) (inl h) says t tree = walk_not_toml h.0 (fault_of r) h.2 says
+parses_not_toml bytes (Err (Script r)) (inr h) says t tree = h.0 t tree
+parses_not_toml bytes (Err Memory) h says t tree = says

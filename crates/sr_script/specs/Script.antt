@@ -49,3 +49,13 @@ Takes s (Err Memory) = Unit {0}
 -- each text whose tree is a script is taken
 abbrev pub TakesScripts : List ℕ → Result script ParseRefusal → Type 0
 TakesScripts bytes answer = (t : Members) (s : Spelled) → IsTree bytes t → Spells t s → Takes s answer
+
+-- the answer is that the text isn't TOML
+abbrev pub SaysNotToml : Result script ParseRefusal → Type 0
+SaysNotToml (Ok s) = ⊥
+SaysNotToml (Err (Script r)) = r.why ≡ NotToml
+SaysNotToml (Err Memory) = ⊥
+
+-- that answer comes where the text has no tree alone
+abbrev pub NotTomlIsTrue : List ℕ → Result script ParseRefusal → Type 0
+NotTomlIsTrue bytes answer = SaysNotToml answer → (t : Members) → ¬ (IsTree bytes t)

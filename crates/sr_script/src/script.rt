@@ -1,6 +1,6 @@
 ghost use Rattle.std.specs.Prelude.{◌≡◌, IfOk};
 ghost use Rattle.sr_script.specs.Fault.{Answers};
-ghost use Rattle.sr_script.specs.Script.{spelled, Parses, IsSpelled, TakesScripts};
+ghost use Rattle.sr_script.specs.Script.{spelled, Parses, IsSpelled, TakesScripts, NotTomlIsTrue};
 ghost use Rattle.sr_script.specs.Walk.{script_in};
 ghost use Rattle.toml.specs.View.{table_view};
 
@@ -31,13 +31,14 @@ pub struct Script {
 }
 
 /// The script that a text is, or the first fault of the walk through it. Memory may run out on any text that isn't blank.
-#[tactic(auto, using(crate::proofs::Parsing::parses_spelled, crate::proofs::Parsing::parses_takes))]
+#[tactic(auto, using(crate::proofs::Parsing::parses_spelled, crate::proofs::Parsing::parses_takes, crate::proofs::Parsing::parses_not_toml))]
 pub fn parse(alloc: Global, bytes: &[u8]) -> Result<Script, ParseRefusal>
     // The script of a good tree, and else the first fault of the walk through it, or that there is no tree.
     ensures walk { Parses bytes.now result }
     // A script is what the schema has the tree spell, and each text whose tree spells a script is taken.
     ensures schema { IfOk result (IsSpelled bytes.now) }
     ensures takes { TakesScripts bytes.now result }
+    ensures not_toml { NotTomlIsTrue bytes.now result }
 {
     read(alloc, bytes)
 }

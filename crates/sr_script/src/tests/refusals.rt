@@ -84,33 +84,44 @@ wrong-type change[0].down change = [{ at_ms = 0, down = true }]
 no-such-server change[0].down change = [{ at_ms = 0, down = 2 }]
 repeated change[1].down change = [{ at_ms = 0, down = 1 }, { at_ms = 0, down = 1 }]";
 
-/// Numbers of a shape that are out of range.
+/// Numbers of a shape that are out of range, or no whole numbers.
 const NUMBERS: &str = "\
-pipes 0
-pipes 17
-buckets 0
-buckets 3
-buckets 131072
-digest_bits -1
-digest_bits 17
-versions 1
-versions 65
-pool_max 0
-pool_max 256
-full_rows 0
-full_rows 6
-full_rows 65540
-filter_bits 0
-filter_bits 48
-filter_bits 2097152
-ring 0
-ring 65537
-window_ms 0
-window_ms 60001
-idle_ms 0
-idle_ms 86400001
-lives 0
-lives 256";
+out-of-range shape.pipes [shape];pipes = 0
+wrong-type shape.pipes [shape];pipes = 0.0
+out-of-range shape.pipes [shape];pipes = 17
+out-of-range shape.buckets [shape];buckets = 0
+wrong-type shape.buckets [shape];buckets = 0.0
+out-of-range shape.buckets [shape];buckets = 3
+out-of-range shape.buckets [shape];buckets = 131072
+out-of-range shape.digest_bits [shape];digest_bits = -1
+wrong-type shape.digest_bits [shape];digest_bits = -1.0
+out-of-range shape.digest_bits [shape];digest_bits = 17
+out-of-range shape.versions [shape];versions = 1
+wrong-type shape.versions [shape];versions = 1.0
+out-of-range shape.versions [shape];versions = 65
+out-of-range shape.pool_max [shape];pool_max = 0
+wrong-type shape.pool_max [shape];pool_max = 0.0
+out-of-range shape.pool_max [shape];pool_max = 256
+out-of-range shape.full_rows [shape];full_rows = 0
+wrong-type shape.full_rows [shape];full_rows = 0.0
+out-of-range shape.full_rows [shape];full_rows = 6
+out-of-range shape.full_rows [shape];full_rows = 65540
+out-of-range shape.filter_bits [shape];filter_bits = 0
+wrong-type shape.filter_bits [shape];filter_bits = 0.0
+out-of-range shape.filter_bits [shape];filter_bits = 48
+out-of-range shape.filter_bits [shape];filter_bits = 2097152
+out-of-range shape.ring [shape];ring = 0
+wrong-type shape.ring [shape];ring = 0.0
+out-of-range shape.ring [shape];ring = 65537
+out-of-range shape.window_ms [shape];window_ms = 0
+wrong-type shape.window_ms [shape];window_ms = 0.0
+out-of-range shape.window_ms [shape];window_ms = 60001
+out-of-range shape.idle_ms [shape];idle_ms = 0
+wrong-type shape.idle_ms [shape];idle_ms = 0.0
+out-of-range shape.idle_ms [shape];idle_ms = 86400001
+out-of-range shape.lives [shape];lives = 0
+wrong-type shape.lives [shape];lives = 0.0
+out-of-range shape.lives [shape];lives = 256";
 
 /// What follows the servers of the small scene.
 const SCENE: &str = "servers = ['10.1.0.1:80', '10.1.0.2:80']; ";
@@ -160,50 +171,6 @@ fn first_faults(rt: HostRuntime) -> Result<(), Fail> {
     all_refused(&rt, alloc, "", TOP)?;
     all_refused(&rt, alloc, SERVERS, VIPS)?;
     all_refused(&rt, alloc, FRONT, CHANGES)?;
+    all_refused(&rt, alloc, "", NUMBERS)?;
     all_refused(&rt, alloc, SCENE, SCENES)
-}
-
-#[test]
-fn shape_numbers(rt: HostRuntime) -> Result<(), Fail> {
-    let alloc = rt.alloc();
-    for row in NUMBERS.lines() {
-        let (key, number) = row.split_once(' ').ok_or("a row without a number")?;
-        let path = format!(in alloc; "shape.{key}")?;
-        let text = format!(in alloc; "[shape]\n{key} = {number}\n")?;
-        refused(&rt, alloc, text.as_str(), "out-of-range", path.as_str());
-        let text = format!(in alloc; "[shape]\n{key} = {number}.0\n")?;
-        refused(&rt, alloc, text.as_str(), "wrong-type", path.as_str());
-    }
-    Ok(())
-}
-
-#[test]
-fn counts(rt: HostRuntime) -> Result<(), Fail> {
-    let alloc = rt.alloc();
-    let mut text = String::new(alloc);
-    push_lines(&mut text, FRONT)?;
-    text.push_str("change = [")?;
-    for _ in 0..4_097u32 {
-        text.push_str("1, ")?;
-    }
-    text.push_str("]\n")?;
-    refused(&rt, alloc, text.as_str(), "too-many-changes", "change");
-    let mut text = String::from_str(alloc, "servers = [")?;
-    for _ in 0..65_537u32 {
-        text.push_str("1, ")?;
-    }
-    text.push_str("]\n")?;
-    refused(&rt, alloc, text.as_str(), "out-of-range", "servers");
-    Ok(())
-}
-
-#[test]
-fn bytes_that_are_no_text(rt: HostRuntime) {
-    match parse(rt.alloc(), b"servers = [\"\xff\"]") {
-        Err(ParseRefusal::Script(refusal)) => {
-            assert_eq!(rt; refusal.why.word(), "not-toml");
-            assert!(rt; refusal.path.is_empty());
-        }
-        _ => panic!(rt; "taken"),
-    }
 }
