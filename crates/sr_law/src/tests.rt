@@ -323,8 +323,18 @@ fn verdict(words: &[&str], i: usize) -> Verdict
     }
 }
 
-// The line of the words from this one on.
-fn line(words: &[&str], at: u8) -> Line {
+// The verdict that ends a packet's line or an answer's from this word on.
+fn last_verdict(words: &[&str], at: u8) -> Verdict {
+    let i = at as usize;
+    if word(words, i) == "packet" {
+        verdict(words, i + 7)
+    } else {
+        verdict(words, i + 5)
+    }
+}
+
+// The line of the words from this one on, with this verdict if it has one.
+fn line(words: &[&str], at: u8, verdict: Verdict) -> Line {
     let i = at as usize;
     let out = number(words, i + 1);
     let vip = small(words, i + 2);
@@ -336,14 +346,14 @@ fn line(words: &[&str], at: u8) -> Line {
             pipe: small(words, i + 4),
             key: key(words, i + 5),
             kind: kind(words, i + 6),
-            verdict: verdict(words, i + 7),
+            verdict,
         },
         "answer" => Line::Answer {
             out,
             pipe: vip,
             nth: mid(words, i + 3),
             key: key(words, i + 4),
-            verdict: verdict(words, i + 5),
+            verdict,
         },
         "give" => Line::Given {
             out,
@@ -455,7 +465,8 @@ impl Row {
             "change" => self.given.push(mid(words, 1))?,
             _ => {
                 if is_line(words) {
-                    self.lines.push(line(words, 0))?;
+                    let verdict = last_verdict(words, 0);
+                    self.lines.push(line(words, 0, verdict))?;
                 }
             }
         }
@@ -549,7 +560,8 @@ fn edited(alloc: Global, lines: &[Line], number: u64, new: &[Line]) -> Result<Ve
 fn put_in(alloc: Global, words: &[&str]) -> Result<Vec<Line>, Fail> {
     let mut new = Vec::new(alloc);
     if word(words, 0) == "edit" {
-        new.push(line(words, 4))?;
+        let verdict = last_verdict(words, 4);
+        new.push(line(words, 4, verdict))?;
     }
     Ok(new)
 }
