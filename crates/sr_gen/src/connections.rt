@@ -2,11 +2,7 @@ ghost use Rattle.std.specs.Prelude.{◌≡◌, ℕ, ◌+◌, ◌<◌, ◌≤◌}
 
 use crate::connection::Connection;
 use crate::generator::Generator;
-
-// How many connections take turns at a time, and how many packets they have together.
-const ROUND: u32 = 100;
-
-const BLOCK: u32 = 1000;
+use crate::turns::{BLOCK, ROUND, connection_number};
 
 /// The connections of the packets, in capture order. Those of a block are drawn anew in each of its rounds, so that none is kept.
 #[derive(Clone, Copy)]
@@ -41,7 +37,7 @@ impl Connections {
     {
         self.begin(t);
         let drawn = self.generator.draw();
-        Connection::new(t / BLOCK * ROUND + t % ROUND, drawn)
+        Connection::new(connection_number(t), drawn)
     }
 
     // Goes back to the block's first draw where packet `t` begins a round, unless a new block begins there.

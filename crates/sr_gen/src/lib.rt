@@ -4,8 +4,9 @@
 //! | part | what it is |
 //! |---|---|
 //! | `generator` | the numbers that are drawn |
-//! | `connection` | a connection, by its place and the number that is drawn for it |
-//! | `connections` | whose turn it is: ten rounds over a hundred connections, and then over the next hundred |
+//! | `turns` | whose turn it is: ten rounds over a hundred connections, and then over the next hundred |
+//! | `connection` | a connection, by its number and what is drawn for it |
+//! | `connections` | the connections of all packets, drawn anew in each round, so that none is kept |
 //! | `record` | a packet's record: its header and its segment |
 //! | `capture` | the whole capture, written record by record |
 #![tactic(auto)]
@@ -15,6 +16,7 @@ mod connection;
 mod connections;
 mod generator;
 mod record;
+mod turns;
 
 pub use capture::make;
 pub use generator::Generator;

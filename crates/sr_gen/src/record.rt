@@ -1,8 +1,8 @@
 ghost use Rattle.std.specs.Prelude.{◌≡◌, ◌<◌};
-ghost use Rattle.sr_gen.specs.Turns.{round_of};
 ghost use Rattle.sr_gen.specs.Record.{flags_of, record_with};
 
 use crate::connection::Connection;
+use crate::turns::round;
 use byteorder::{BigEndian, ByteOrder, LittleEndian};
 
 /// How many bytes a record has: 16 of its header, 20 of an IPv4 header and 20 of a TCP header.
@@ -34,15 +34,15 @@ pub fn record(t: u32, connection: Connection) -> [u8; LENGTH]
     BigEndian::write_u32(&mut bytes[28..], connection.source);
     BigEndian::write_u32(&mut bytes[32..], connection.vip);
     BigEndian::write_u16(&mut bytes[36..], connection.port);
-    bytes[49] = flags(t);
+    bytes[49] = flags(round(t));
     bytes
 }
 
-// The flags of packet `t`: a connection's first of ten packets opens it, its last ends it.
-fn flags(t: u32) -> u8
-    ensures { result ≡ flags_of (round_of t) }
+// The flags of a connection's packet in this round: its first of ten packets opens it, its last ends it.
+fn flags(round: u32) -> u8
+    ensures { result ≡ flags_of round }
 {
-    match t % 1000 / 100 {
+    match round {
         0 => SYN,
         9 => FIN_ACK,
         _ => ACK,

@@ -1,4 +1,4 @@
-use Rattle.std.proofs.Common.{◌≡◌, ◌+◌, ◌*◌, ◌/◌, ◌%◌, ap, ◌∙◌, arith}
+use Rattle.std.proofs.Common.{◌≡◌, ◌+◌, ◌*◌, ◌/◌, ap, ◌∙◌}
 use Rattle.sr_gen.specs.Generator.{next_state, state_after}
 use Rattle.sr_gen.specs.Turns.{connection_number}
 use Rattle.sr_gen.proofs.Drawing.{state_more, connection_drawn, stands_next}
@@ -10,8 +10,7 @@ returns-clause-connection c = λ number stands.
     let at = c.begin.ensures number stands in
     let state : c.draw-drawn.new.self ≡ state_after (connection_number t + 1) number =
     c.draw-drawn.ensures.state ∙ ap (λ s. next_state s.generator) at ∙ state_more (connection_number t) number in
-    let i : t / 1000 * 100 + t % 100 ≡ connection_number t = omega arith in
-    c.new.ensures ∙ connection_drawn number _ _ _ _ i c.draw-drawn.ensures.value state
+    c.new.ensures ∙ connection_drawn number _ _ _ _ c.connection_number.ensures c.draw-drawn.ensures.value state
 
 pub returns-clause-after : goal.returns-clause-after
 returns-clause-after c = λ number stands.
