@@ -137,8 +137,12 @@ fn spells(rt: &impl Abort, alloc: Global, text: &str, says: &str) -> Result<(), 
 }
 
 #[test]
-fn scripts(rt: HostRuntime) -> Result<(), Fail> {
-    spells(&rt, rt.alloc(), SCENE, SCENE_SAYS)?;
+fn scene(rt: HostRuntime) -> Result<(), Fail> {
+    spells(&rt, rt.alloc(), SCENE, SCENE_SAYS)
+}
+
+#[test]
+fn demo(rt: HostRuntime) -> Result<(), Fail> {
     spells(&rt, rt.alloc(), DEMO, DEMO_SAYS)
 }
 
@@ -153,14 +157,26 @@ fn reads(rt: &impl Abort, alloc: Global, text: &str, says: &str) -> Result<(), F
     Ok(())
 }
 
-#[test]
-fn addresses(rt: HostRuntime) -> Result<(), Fail> {
-    for row in ADDRESSES.lines() {
+fn all_read(rt: &impl Abort, alloc: Global, rows: &str) -> Result<(), Fail> {
+    for row in rows.lines() {
         let (text, says) = row.split_once(' ').ok_or("a row without numbers")?;
-        reads(&rt, rt.alloc(), text, says)?;
-    }
-    for text in NO_ADDRESSES.lines() {
-        assert!(rt; address(text).is_none(), "{text}");
+        reads(rt, alloc, text, says)?;
     }
     Ok(())
+}
+
+fn none_read(rt: &impl Abort, rows: &str) {
+    for text in rows.lines() {
+        assert!(rt; address(text).is_none(), "{text}");
+    }
+}
+
+#[test]
+fn addresses(rt: HostRuntime) -> Result<(), Fail> {
+    all_read(&rt, rt.alloc(), ADDRESSES)
+}
+
+#[test]
+fn no_addresses(rt: HostRuntime) {
+    none_read(&rt, NO_ADDRESSES);
 }
