@@ -1,4 +1,4 @@
--- A command names a server.
+-- The numbers of a command are in range.
 use Rattle.std.proofs.Common.{◌≡◌, ℕ, ◌≤◌, Bool, true, false, cond, ◌&&◌, List, [], ◌∷◌, length, Option, Some, None, codes, leb-true, arith, refl, subst, ◌==◌}
 use Rattle.std.specs.Prelude.{nat_le, option_and_then, option_map}
 use Rattle.std.specs.Str.{bytes_eq}
@@ -6,13 +6,18 @@ use Rattle.std.specs.List.{slice_split}
 use Rattle.std.proofs.lemmas.Option.{cond_some}
 use Rattle.sr_script.specs.Address.{address_of}
 use Rattle.sr_run.specs.declared.command.Command.{Command}
-use Rattle.sr_run.specs.declared.command.Command.TheVariants.{One}
-use Rattle.sr_run.specs.Command.{HasServers, command_of, command_of_three, one_of}
+use Rattle.sr_run.specs.declared.command.Command.TheVariants.{One, Make}
+use Rattle.sr_run.specs.Command.{IsInRange, command_of, make_of, one_of}
+use Rattle.sr_run.specs.Numbers.{count_of_packets, number_of, packets_in}
 use Rattle.sr_run.specs.Servers.{addresses_of, all_differ, counted, count_of_servers}
 
 both_true : (a b : Bool) → (a && b) ≡ true → a ≡ true
 both_true true b e = refl
 both_true false b e = e
+
+second_true : (a b : Bool) → (a && b) ≡ true → b ≡ true
+second_true true b e = e
+second_true false b e = absurd cc
 
 counted_some : (known : List (ℕ × ℕ)) (n : ℕ) → counted known ≡ Some n → 1 ≤ n
 counted_some known n e =
@@ -28,20 +33,42 @@ count_some : (word : List ℕ) (n : ℕ) → count_of_servers word ≡ Some n �
 unfolding count_of_servers
 count_some word n e = chain_some (addresses_of (slice_split (λ b. b == 44) word)) n e
 
-one_some : (vip : Option (ℕ × ℕ)) (count : Option ℕ) (c : Command) → ((n : ℕ) → count ≡ Some n → 1 ≤ n) → option_and_then (λ v. option_map (λ n. One v n) count) vip ≡ Some c → HasServers c
+one_some : (vip : Option (ℕ × ℕ)) (count : Option ℕ) (c : Command) → ((n : ℕ) → count ≡ Some n → 1 ≤ n) → option_and_then (λ v. option_map (λ n. One v n) count) vip ≡ Some c → IsInRange c
 one_some None count c some e = absurd cc
 one_some (Some v) None c some e = absurd cc
-one_some (Some v) (Some n) c some e = let same : One v n ≡ c = cc in subst HasServers same (some n refl)
+one_some (Some v) (Some n) c some e = let same : One v n ≡ c = cc in subst IsInRange same (some n refl)
 
-three_some : (name : Bool) (found : Option Command) (c : Command) → ((d : Command) → found ≡ Some d → HasServers d) → cond name found None ≡ Some c → HasServers c
-three_some true found c some e = some c e
-three_some false found c some e = absurd cc
+packets_some : (n p : ℕ) → packets_in n ≡ Some p → (1 ≤ p) × (p ≤ 4194304)
+packets_some n p e =
+    let found = cond_some (nat_le 1 n && nat_le n 4194304) n p e in
+    let low = both_true (nat_le 1 n) (nat_le n 4194304) found.0 in
+    let high = second_true (nat_le 1 n) (nat_le n 4194304) found.0 in
+    (omega (arith, leb-true, low, found.1), omega (arith, leb-true, high, found.1))
 
-pub command_some : (words : List (List ℕ)) (c : Command) → command_of words ≡ Some c → HasServers c
+chain_packets : (o : Option ℕ) (p : ℕ) → option_and_then packets_in o ≡ Some p → (1 ≤ p) × (p ≤ 4194304)
+chain_packets None p e = absurd cc
+chain_packets (Some n) p e = packets_some n p e
+
+count_packets : (word : List ℕ) (p : ℕ) → count_of_packets word ≡ Some p → (1 ≤ p) × (p ≤ 4194304)
+unfolding count_of_packets
+count_packets word p e = chain_packets (number_of word) p e
+
+make_some : (number packets : Option ℕ) (c : Command) → ((p : ℕ) → packets ≡ Some p → (1 ≤ p) × (p ≤ 4194304)) → option_and_then (λ n. option_map (λ p. Make n p) packets) number ≡ Some c → IsInRange c
+make_some None packets c some e = absurd cc
+make_some (Some n) None c some e = absurd cc
+make_some (Some n) (Some p) c some e = let same : Make n p ≡ c = cc in subst IsInRange same (some p refl)
+
+either_some : (test : Bool) (a b : Option Command) (c : Command) → ((d : Command) → a ≡ Some d → IsInRange d) → ((d : Command) → b ≡ Some d → IsInRange d) → cond test a b ≡ Some c → IsInRange c
+either_some true a b c first second e = first c e
+either_some false a b c first second e = second c e
+
+pub command_some : (words : List (List ℕ)) (c : Command) → command_of words ≡ Some c → IsInRange c
 unfolding command_of
 command_some [] c e = absurd cc
 command_some (a ∷ []) c e = absurd cc
 command_some (a ∷ b ∷ []) c e = absurd cc
 command_some (name ∷ first ∷ second ∷ []) c e =
-    three_some (bytes_eq name (codes "one")) (one_of first second) c (λ d f. one_some (address_of first) (count_of_servers second) d (count_some second) f) e
+    either_some (bytes_eq name (codes "one")) (one_of first second) _ c
+      (λ d f. one_some (address_of first) (count_of_servers second) d (count_some second) f)
+      (λ d f. either_some (bytes_eq name (codes "make")) (make_of first second) None d (λ h k. make_some (number_of first) (count_of_packets second) h (count_packets second) k) (λ h k. absurd cc) f) e
 command_some (name ∷ first ∷ second ∷ fourth ∷ rest) c e = absurd cc

@@ -23,8 +23,8 @@ use Rattle.sr_law.specs.Server.{meets_server, is_number}
 use Rattle.sr_law.specs.Ticks.{lines_before}
 use Rattle.sr_run.specs.One.{one_lines, one_pools, opening_line, packet_line, packet_lines}
 use Rattle.sr_run.specs.declared.command.Command.{Command}
-use Rattle.sr_run.specs.declared.command.Command.TheVariants.{One}
-use Rattle.sr_run.specs.Command.{command_of, HasServers}
+use Rattle.sr_run.specs.declared.command.Command.TheVariants.{One, Make}
+use Rattle.sr_run.specs.Command.{command_of, IsInRange}
 use Rattle.sr_run.specs.Run.{KeepsServer, KeepServers, lines_of, lines_in, pools_of}
 use Rattle.sr_run.specs.Capture.{packets_from, records_behind}
 use Rattle.sr_pcap.specs.declared.begin_refusal.BeginRefusal.{BeginRefusal}
@@ -123,6 +123,7 @@ keeps_in (Ok format) vip servers bytes some i line at =
 keeps_in (Err why) vip servers bytes some i line at = absurd cc
 
 -- whatever a command with servers reads
-pub keeps_servers : (c : Command) (bytes : List ℕ) → HasServers c → KeepServers (pools_of c) (lines_of c bytes)
+pub keeps_servers : (c : Command) (bytes : List ℕ) → IsInRange c → KeepServers (pools_of c) (lines_of c bytes)
 unfolding lines_of
 keeps_servers (One vip servers) bytes some = keeps_in (header_of bytes) vip servers (drop 24 bytes) some
+keeps_servers (Make number packets) bytes some = λ i line at. absurd cc

@@ -1,6 +1,7 @@
 mod AddressLists
 mod CaptureRecords
 mod CommandServers
+mod Digits
 mod FrameVips
 mod KeptServers
 mod PrintedLines

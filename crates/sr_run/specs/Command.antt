@@ -2,23 +2,31 @@
 use Rattle.std.specs.Prelude.{ℕ, ◌≤◌, if◌then◌else◌, List, [], ◌∷◌, codes, Option, Some, None, option_map, option_and_then}
 use Rattle.std.specs.Str.{bytes_eq}
 use Rattle.sr_script.specs.Address.{address_of}
+use Rattle.sr_run.specs.Numbers.{count_of_packets, number_of}
 use Rattle.sr_run.specs.Servers.{count_of_servers}
 use Rattle.sr_run.specs.declared.command.Command.{Command}
-use Rattle.sr_run.specs.declared.command.Command.TheVariants.{One}
+use Rattle.sr_run.specs.declared.command.Command.TheVariants.{One, Make}
 
 -- one VIP SERVERS
 abbrev pub one_of : List ℕ → List ℕ → Option Command
 one_of vip servers = option_and_then (λ v. option_map (λ n. One v n) (count_of_servers servers)) (address_of vip)
 
+-- make N PACKETS
+abbrev pub make_of : List ℕ → List ℕ → Option Command
+make_of number packets = option_and_then (λ n. option_map (λ p. Make n p) (count_of_packets packets)) (number_of number)
+
 -- the command of three words
 abbrev pub command_of_three : List ℕ → List ℕ → List ℕ → Option Command
-command_of_three name first second = if bytes_eq name (codes "one") then one_of first second else None
+command_of_three name first second =
+    if bytes_eq name (codes "one") then one_of first second
+    else (if bytes_eq name (codes "make") then make_of first second else None)
 
 -- the command that the words are
 unfoldable pub command_of : List (List ℕ) → Option Command
 command_of (name ∷ first ∷ second ∷ []) = command_of_three name first second
 command_of _ = None
 
--- it has a server
-abbrev pub HasServers : Command → Type 0
-HasServers (One vip servers) = 1 ≤ servers
+-- its numbers are in range: it has a server; it has packets, and no more than a capture may have
+abbrev pub IsInRange : Command → Type 0
+IsInRange (One vip servers) = 1 ≤ servers
+IsInRange (Make number packets) = (1 ≤ packets) × (packets ≤ 4194304)

@@ -1,5 +1,6 @@
 -- What a run of the program does to what it reads and prints.
 use Rattle.std.specs.Prelude.{◌≡◌, ℕ, List, [], drop, Option, Some, None, Result, Ok, Err, IsTrue, slice_get}
+use Rattle.sr_gen.specs.Capture.{capture_of}
 use Rattle.sr_io.specs.Sink.{Adds, AddsFront}
 use Rattle.sr_io.specs.declared.sink.Put.{Put}
 use Rattle.sr_io.specs.declared.sink.Put.TheVariants as put
@@ -12,7 +13,7 @@ use Rattle.sr_pcap.specs.declared.begin_refusal.BeginRefusal.{BeginRefusal}
 use Rattle.sr_pcap.specs.declared.format.Format.{Format}
 use Rattle.sr_pcap.specs.Format.{header_of}
 use Rattle.sr_run.specs.declared.command.Command.{Command}
-use Rattle.sr_run.specs.declared.command.Command.TheVariants.{One}
+use Rattle.sr_run.specs.declared.command.Command.TheVariants.{One, Make}
 use Rattle.sr_run.specs.declared.status.CaptureRefusal.{CaptureRefusal}
 use Rattle.sr_run.specs.declared.status.Status.{Status}
 use Rattle.sr_run.specs.declared.status.Status.TheVariants.{Done, Usage, Capture, ReadFault, WriteFault, Memory}
@@ -39,18 +40,22 @@ lines_in (Err why) vip servers bytes = []
 -- why a command refuses these bytes, if it does
 unfoldable pub refusal_of : Command → List ℕ → Option CaptureRefusal
 refusal_of (One vip servers) bytes = refusal_in (header_of bytes) (drop 24 bytes)
+refusal_of (Make number packets) bytes = None
 
 -- what a command prints of these bytes: of a capture that is refused in a record the whole records before it
 unfoldable pub printed : Command → List ℕ → List ℕ
 printed (One vip servers) bytes = printed_in (header_of bytes) vip servers (drop 24 bytes)
+printed (Make number packets) bytes = capture_of number packets
 
 -- the lines among what a command prints of these bytes
 unfoldable pub lines_of : Command → List ℕ → List Line
 lines_of (One vip servers) bytes = lines_in (header_of bytes) vip servers (drop 24 bytes)
+lines_of (Make number packets) bytes = []
 
 -- the pools of a command, by virtual address and number
 abbrev pub pools_of : Command → List VipPools
 pools_of (One vip servers) = one_pools servers
+pools_of (Make number packets) = []
 
 -- After these lines a line keeps to its connection's server: while the connection is open the line has its opening's pool, and its server is
 -- the one that the key's hash picks from that pool.
@@ -61,9 +66,14 @@ KeepsServer pools before line = IsTrue (meets_same before line) × IsTrue (meets
 abbrev pub KeepServers : List VipPools → List Line → Type 0
 KeepServers pools lines = (i : ℕ) (line : Line) → slice_get lines i ≡ Some line → KeepsServer pools (lines_before i lines) line
 
+-- the bytes that a command which is done has left: none, or all of them where it reads nothing
+abbrev pub left_by : Command → List ℕ → List ℕ
+left_by (One vip servers) bytes = []
+left_by (Make number packets) bytes = bytes
+
 -- What each status says of a command over these bytes: what is left of them, and what the sink took.
 abbrev pub Answers : Status → Command → List ℕ → Option (List ℕ) → Option (List ℕ) → Option (List ℕ) → Type 0
-Answers Done c bytes left old new = (refusal_of c bytes ≡ None) × (left ≡ Some []) × Adds old new (printed c bytes)
+Answers Done c bytes left old new = (refusal_of c bytes ≡ None) × (left ≡ Some (left_by c bytes)) × Adds old new (printed c bytes)
 Answers Usage c bytes left old new = ⊥
 Answers (Capture why) c bytes left old new = (refusal_of c bytes ≡ Some why) × Adds old new (printed c bytes)
 Answers ReadFault c bytes left old new = Adds old new []

@@ -1,12 +1,14 @@
 //! All that the program does, behind one call. `run` reads the words, and does what the command says over a source, a shelf, a sink and a
 //! gate; what it prints is a stated function of the bytes that it reads.
 //!
-//! `command` reads the words, `servers` the servers among them. `capture` reads a whole capture, and `print_log` prints. `one` is the
-//! command of that name. `status` is how a run ends.
+//! `command` reads the words, `servers` and `numbers` are what stands among them. `capture` reads a whole capture, and `print_log` prints. `one` and
+//! `make_capture` are the commands. `status` is how a run ends.
 #![tactic(auto)]
 
 mod capture;
 mod command;
+mod make_capture;
+mod numbers;
 mod one;
 mod print_log;
 mod servers;

@@ -1,12 +1,14 @@
 ghost use Rattle.std.specs.Prelude.{◌≡◌, ◌⊎◌, List, ℕ, Some, None, map, string_bytes};
 ghost use Rattle.sr_io.specs.Faults.{Rose};
 ghost use Rattle.sr_run.specs.Command.{command_of};
+ghost use Rattle.sr_run.specs.Make.{Makes};
 ghost use Rattle.sr_run.specs.Run.{Answers, KeepServers, WritesNothing, lines_of, pools_of};
 ghost use Rattle.sr_run.specs.declared.command.Command.{Command};
 ghost use Rattle.sr_run.specs.declared.status.Status.TheVariants.{Usage, ReadFault, WriteFault, Memory};
 
 use crate::Status;
 use crate::command::{Command, read_command};
+use crate::make_capture::run_make;
 use crate::one::run_one;
 use sr_io::{Gate, Shelf, Sink, Source};
 use std::alloc::Global;
@@ -31,6 +33,10 @@ pub fn run<R: Threads + Sync, S: Source, F: Shelf, K: Sink, G: Gate + Sync>(
     ensures command { (c : Command) (xs : List ℕ) → command_of (map string_bytes words.now) ≡ Some c → S.left source.old ≡ Some xs
         → Answers result c xs (S.left source.new) (K.taken sink.old) (K.taken sink.new) }
 
+    // What `make` does, whatever the source: it reads nothing.
+    ensures make { (number packets : ℕ) → command_of (map string_bytes words.now) ≡ Some (Command.Make number packets)
+        → Makes result number packets (K.taken sink.old) (K.taken sink.new) × (source.new ≡ source.old) }
+
     // No line among what it prints leaves its connection's server.
     ensures servers { (c : Command) (xs : List ℕ) → command_of (map string_bytes words.now) ≡ Some c → KeepServers (pools_of c) (lines_of c xs) }
 
@@ -44,5 +50,6 @@ pub fn run<R: Threads + Sync, S: Source, F: Shelf, K: Sink, G: Gate + Sync>(
         Err(_) => Status::Memory,
         Ok(None) => Status::Usage,
         Ok(Some(Command::One { vip, servers })) => run_one(alloc, vip, servers, source, sink),
+        Ok(Some(Command::Make { number, packets })) => run_make(number, packets, sink),
     }
 }

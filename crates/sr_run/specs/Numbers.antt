@@ -1,0 +1,25 @@
+-- Numbers on the command line: 1 to 20 decimal digits, below 2^64. Leading zeros are digits.
+use Rattle.std.specs.Prelude.{ℕ, ◌+◌, ◌-◌, ◌*◌, ◌^◌, ◌&&◌, nat_le, nat_lt, if◌then◌else◌, List, [], ◌∷◌, length, Option, Some, None, option_and_then}
+use Rattle.std.specs.List.{list_all}
+use Rattle.sr_script.specs.Address.{is_digit}
+
+-- the number that goes on from n with these digits
+abbrev pub value_from : ℕ → List ℕ → ℕ
+value_from n [] = n
+value_from n (digit ∷ digits) = value_from (10 * n + (digit - 48)) digits
+
+-- the number, if it is below 2^64
+abbrev pub fitting : ℕ → Option ℕ
+fitting n = if nat_lt n (2 ^ 64) then Some n else None
+
+-- the number that a word spells
+unfoldable pub number_of : List ℕ → Option ℕ
+number_of word =
+    if nat_le 1 (length word) && nat_le (length word) 20 && list_all is_digit word then fitting (value_from 0 word) else None
+
+-- a number of packets: 1 to 4,194,304
+abbrev pub packets_in : ℕ → Option ℕ
+packets_in n = if nat_le 1 n && nat_le n 4194304 then Some n else None
+
+unfoldable pub count_of_packets : List ℕ → Option ℕ
+count_of_packets word = option_and_then packets_in (number_of word)
