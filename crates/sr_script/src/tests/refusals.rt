@@ -165,12 +165,26 @@ fn all_refused(rt: &impl Abort, alloc: Global, front: &str, rows: &str) -> Resul
 }
 
 #[test]
-fn first_faults(rt: HostRuntime) -> Result<(), Fail> {
-    let alloc = rt.alloc();
-    refused(&rt, alloc, "", "missing", "servers");
-    all_refused(&rt, alloc, "", TOP)?;
-    all_refused(&rt, alloc, SERVERS, VIPS)?;
-    all_refused(&rt, alloc, FRONT, CHANGES)?;
-    all_refused(&rt, alloc, "", NUMBERS)?;
-    all_refused(&rt, alloc, SCENE, SCENES)
+fn top(rt: HostRuntime) -> Result<(), Fail> {
+    all_refused(&rt, rt.alloc(), "", TOP)
+}
+
+#[test]
+fn numbers(rt: HostRuntime) -> Result<(), Fail> {
+    all_refused(&rt, rt.alloc(), "", NUMBERS)
+}
+
+#[test]
+fn virtual_addresses(rt: HostRuntime) -> Result<(), Fail> {
+    all_refused(&rt, rt.alloc(), SERVERS, VIPS)
+}
+
+#[test]
+fn changes(rt: HostRuntime) -> Result<(), Fail> {
+    all_refused(&rt, rt.alloc(), FRONT, CHANGES)
+}
+
+#[test]
+fn scene(rt: HostRuntime) -> Result<(), Fail> {
+    all_refused(&rt, rt.alloc(), SCENE, SCENES)
 }
