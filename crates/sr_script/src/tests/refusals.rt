@@ -188,3 +188,29 @@ fn changes(rt: HostRuntime) -> Result<(), Fail> {
 fn scene(rt: HostRuntime) -> Result<(), Fail> {
     all_refused(&rt, rt.alloc(), SCENE, SCENES)
 }
+
+fn with_ones(alloc: Global, front: &str, key: &str, count: u32) -> Result<String, Fail> {
+    let mut text = String::new(alloc);
+    push_lines(&mut text, front)?;
+    text.push_str(key)?;
+    text.push_str(" = [")?;
+    for _ in 0..count {
+        text.push_str("1, ")?;
+    }
+    text.push_str("]\n")?;
+    Ok(text)
+}
+
+#[test]
+fn too_many_changes(rt: HostRuntime) -> Result<(), Fail> {
+    let text = with_ones(rt.alloc(), FRONT, "change", 4_097)?;
+    refused(&rt, rt.alloc(), text.as_str(), "too-many-changes", "change");
+    Ok(())
+}
+
+#[test]
+fn too_many_servers(rt: HostRuntime) -> Result<(), Fail> {
+    let text = with_ones(rt.alloc(), "", "servers", 65_537)?;
+    refused(&rt, rt.alloc(), text.as_str(), "out-of-range", "servers");
+    Ok(())
+}
