@@ -1,8 +1,8 @@
 //! Worked rows that go through `sr_run::run`, as tables of tests. There is nothing here for a program to call.
 //!
 //! `bytes` makes captures and `play` runs a row through devices in memory. The rows: `first_run` (whole captures and skipped records),
-//! `cuts` (an input cut to every length), `devices` (failing ones), `frames` (hostile ones), `forms` (of captures), `usage` (words that are
-//! no command) and `hashes` (values from outside).
+//! `cuts` (an input cut to every length), `devices` (failing ones), `frames` (hostile ones), `forms` (of captures), `made`
+//! (captures from a number), `usage` (words that are no command) and `hashes` (values from outside).
 #![tactic(auto)]
 
 #[cfg(test)]
@@ -19,6 +19,8 @@ mod forms;
 mod frames;
 #[cfg(test)]
 mod hashes;
+#[cfg(test)]
+mod made;
 #[cfg(test)]
 mod play;
 #[cfg(test)]

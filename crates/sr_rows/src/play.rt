@@ -61,7 +61,7 @@ pub fn play<R: Threads + Sync>(rt: &R, alloc: Global, row: Row) -> Result<Played
     let write_fails = Vec::from_slice(alloc, &[row.write_fails])?;
     let mut source = MemSource::new(input, row.piece.max(1), read_fails);
     let mut shelf = SureShelf::new(Vec::new(alloc));
-    let mut sink = MemSink::new(alloc, 65_536, write_fails)?;
+    let mut sink = MemSink::new(alloc, 262_144, write_fails)?;
     let status = run(
         rt,
         alloc,

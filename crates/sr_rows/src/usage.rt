@@ -5,7 +5,7 @@ use std::test::Fail;
 
 #[test]
 fn no_command(rt: HostRuntime) -> Result<(), Fail> {
-    let rows: [&[&str]; 12] = [
+    let rows: [&[&str]; 16] = [
         &[],
         &["one"],
         &["one", "192.0.2.1:80"],
@@ -18,6 +18,10 @@ fn no_command(rt: HostRuntime) -> Result<(), Fail> {
         &["One", "192.0.2.1:80", "10.1.0.1:80"],
         &["replay"],
         &["replay", "-x"],
+        &["make", "1", "0"],
+        &["make", "+1", "5"],
+        &["make", "1", "4194305"],
+        &["make", "18446744073709551616", "1"],
     ];
     for words in rows {
         let row = Row {

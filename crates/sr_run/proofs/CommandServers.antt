@@ -69,6 +69,6 @@ command_some (a ∷ []) c e = absurd cc
 command_some (a ∷ b ∷ []) c e = absurd cc
 command_some (name ∷ first ∷ second ∷ []) c e =
     either_some (bytes_eq name (codes "one")) (one_of first second) _ c
-      (λ d f. one_some (address_of first) (count_of_servers second) d (count_some second) f)
-      (λ d f. either_some (bytes_eq name (codes "make")) (make_of first second) None d (λ h k. make_some (number_of first) (count_of_packets second) h (count_packets second) k) (λ h k. absurd cc) f) e
+    (λ d f. one_some (address_of first) (count_of_servers second) d (count_some second) f)
+    (λ d f. either_some (bytes_eq name (codes "make")) (make_of first second) None d (λ h k. make_some (number_of first) (count_of_packets second) h (count_packets second) k) (λ h k. absurd cc) f) e
 command_some (name ∷ first ∷ second ∷ fourth ∷ rest) c e = absurd cc

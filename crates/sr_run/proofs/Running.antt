@@ -6,11 +6,13 @@ use Rattle.sr_pcap.specs.declared.begin_refusal.BeginRefusal.{BeginRefusal}
 use Rattle.sr_pcap.specs.declared.format.Format.{Format}
 use Rattle.sr_pcap.specs.Format.{header_of}
 use Rattle.sr_run.specs.declared.capture.Captured.{Captured}
-use Rattle.sr_run.specs.declared.command.Command.TheVariants.{One}
+use Rattle.sr_run.specs.declared.command.Command.{Command}
+use Rattle.sr_run.specs.declared.command.Command.TheVariants.{One, Make}
 use Rattle.sr_run.specs.declared.status.CaptureRefusal.{CaptureRefusal}
 use Rattle.sr_run.specs.declared.status.Status.{Status}
 use Rattle.sr_run.specs.declared.status.Status.TheVariants.{Done, Usage, Capture, ReadFault, WriteFault, Memory}
 use Rattle.sr_run.specs.Capture.{Keeps, header_refusal, packets_from, records_behind, skips_from}
+use Rattle.sr_run.specs.Make.{Makes}
 use Rattle.sr_run.specs.One.{one_text}
 use Rattle.sr_run.specs.Run.{Answers, EndsPrinting, refusal_of, refusal_in, printed, printed_in}
 
@@ -55,3 +57,21 @@ prints_a_command (Capture why) ending text old new ends same = cc
 prints_a_command ReadFault ending text old new ends same = ends
 prints_a_command WriteFault ending text old new ends same = cc
 prints_a_command Memory ending text old new ends same = ends
+
+-- a capture that was made from a number, whatever there was to read
+pub answers_made : (number packets : ℕ) (xs : List ℕ) (left old new : Option (List ℕ)) (status : Status) → left ≡ Some xs → Makes status number packets old new
+    → Answers status (Make number packets) xs left old new
+unfolding refusal_of printed
+answers_made number packets xs left old new Done same made = (refl, same, made)
+answers_made number packets xs left old new Usage same made = made
+answers_made number packets xs left old new (Capture why) same made = absurd made
+answers_made number packets xs left old new ReadFault same made = absurd made
+answers_made number packets xs left old new WriteFault same made = made
+answers_made number packets xs left old new Memory same made = made
+
+-- the command that was read is the one that the words are
+pub answers_read_command : (number packets : ℕ) (read : Option Command) (c : Command) (xs : List ℕ) (left old new : Option (List ℕ)) (status : Status)
+    → Some (Make number packets) ≡ read → read ≡ Some c → left ≡ Some xs → Makes status number packets old new → Answers status c xs left old new
+answers_read_command number packets read c xs left old new status was is same made =
+    let one : Make number packets ≡ c = cc in
+    subst (λ d. Answers status d xs left old new) one (answers_made number packets xs left old new status same made)

@@ -32,3 +32,7 @@ flushed {a} {b} {c} {d} {e} f All head skips opening lines first second third fo
     subst (λ t. Adds a f t) (append-nil (head ++ (skips ++ (opening ++ lines)))) (adds_then (whole_log head skips opening lines first second third fourth) last)
 flushed {a} {b} {c} {d} {e} f Failed head skips opening lines first second third fourth last =
     subst (λ t. AddsFront a f t) (append-nil (head ++ (skips ++ (opening ++ lines)))) (adds_front_then [] (whole_log head skips opening lines first second third fourth) last)
+
+-- a flush that fails takes nothing
+pub flush_failed : {a b : Option (List ℕ)} (c : Option (List ℕ)) (x : List ℕ) → Adds a b x → AddsFront b c [] → AddsFront a c x
+flush_failed {a} c x whole front = subst (λ t. AddsFront a c t) (append-nil x) (adds_front_then [] whole front)
