@@ -12,11 +12,11 @@ use Rattle.sr_law.specs.declared.verdict.Verdict.TheVariants.{To}
 use Rattle.sr_law.specs.declared.giving.Giving.{Giving}
 use Rattle.sr_hash.specs.Uses.{bloom_places_of}
 use Rattle.sr_law.specs.Given.{last_given, has_pool}
-use Rattle.sr_law.specs.Keys.{same_key, same_place, clashes}
+use Rattle.sr_law.specs.Keys.{same_key, same_place, clashes_in}
 
 -- a packet of this key matches the other key's entry at this place: in a row it is the same key, in a slot the two clash
 abbrev pub matches_entry : Shape → KeyView → KeyView → Place → Bool
-matches_entry shape c key (Slot way bucket cell) = clashes shape way key c
+matches_entry shape c key (Slot way bucket cell) = clashes_in shape way key c
 matches_entry shape c key (Row row) = same_key key c
 
 -- strictly between two ticks

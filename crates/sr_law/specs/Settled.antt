@@ -13,7 +13,7 @@ use Rattle.sr_law.specs.declared.line.Line.TheVariants.{Packet, Given, TakenDown
 use Rattle.sr_law.specs.declared.sweep.Sweep.{Sweep}
 use Rattle.sr_law.specs.Cause.{all_in_use}
 use Rattle.sr_law.specs.Groups.{after_gives, is_over, last_of_update}
-use Rattle.sr_law.specs.Keys.{same_key, same_place, clashes}
+use Rattle.sr_law.specs.Keys.{same_key, same_place, clashes_in}
 use Rattle.sr_law.specs.Opening.{is_open}
 use Rattle.sr_law.specs.Pools.{gives_to}
 use Rattle.sr_law.specs.Retire.{last_sweep, numbered_sweep}
@@ -134,7 +134,7 @@ sweeps_settled setup (Some clock) all = nat_lt clock (sweep_time (last_sweep all
 -- a packet of this key, or of one that clashes with it, was out after this tick
 abbrev pub uses_after : Shape → KeyView → ℕ → Line → Bool
 uses_after shape c tick (Packet number entered out pipe key kind verdict) =
-    (same_key key c || (clashes shape 1 key c || clashes shape 2 key c)) && nat_lt tick out
+    (same_key key c || (clashes_in shape 1 key c || clashes_in shape 2 key c)) && nat_lt tick out
 uses_after shape c tick line = false
 
 -- a key that is open, and was placed before this tick and not cleared, was used after it

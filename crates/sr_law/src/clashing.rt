@@ -3,7 +3,7 @@ ghost use Rattle.std.specs.List.{list_any};
 ghost use Rattle.sr_law.specs.Held.{matches_entry, is_between, clears_between, reserves_against, may_clash};
 
 use crate::Line;
-use crate::keys::{clashes, same_key, same_place};
+use crate::keys::{clashes_in, same_key, same_place};
 use sr_base::{Key, Place, Shape};
 
 // A packet of this key matches the other key's entry at this place.
@@ -13,7 +13,7 @@ fn matches_entry(shape: &Shape, c: Key, key: Key, place: Place) -> bool
     ensures { result ≡ matches_entry shape.now c key place }
 {
     match place {
-        Place::Slot { way, .. } => clashes(shape, way, key, c),
+        Place::Slot { way, .. } => clashes_in(shape, way, key, c),
         Place::Row { .. } => same_key(key, c),
     }
 }

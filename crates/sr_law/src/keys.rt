@@ -1,8 +1,8 @@
 ghost use Rattle.std.specs.Prelude.{◌≡◌, ◌≤◌};
-ghost use Rattle.sr_law.specs.Keys.{same_key, same_place, clashes};
+ghost use Rattle.sr_law.specs.Keys.{same_key, same_place, clashes_in};
 
 use sr_base::{Key, Place, Shape};
-use sr_hash::{bucket, digest};
+use sr_hash::clashes;
 
 // Two keys are one.
 pub(crate) fn same_key(a: Key, b: Key) -> bool
@@ -29,16 +29,14 @@ pub(crate) fn same_place(place: Place, at: Place) -> bool
     }
 }
 
-// The keys clash in this way.
-pub(crate) fn clashes(shape: &Shape, way: u8, a: Key, b: Key) -> bool
+// The keys clash in this way, which is 1 or 2.
+pub(crate) fn clashes_in(shape: &Shape, way: u8, a: Key, b: Key) -> bool
     requires buckets { 1 ≤ shape.now.buckets }
     requires bits { shape.now.digest_bits ≤ 16 }
-    ensures { result ≡ clashes shape.now way a b }
+    ensures { result ≡ clashes_in shape.now way a b }
 {
     if way == 1 || way == 2 {
-        a.vip == b.vip
-            && bucket(way, a, shape.buckets) == bucket(way, b, shape.buckets)
-            && digest(way, a, shape.digest_bits) == digest(way, b, shape.digest_bits)
+        clashes(shape, way, a, b)
     } else {
         false
     }
