@@ -11,7 +11,7 @@ use std::test::Fail;
 
 // Lines are written as they are printed, but for keys, which are A to F, and places. `edit 3 order 3 LINE` puts another line at the place of
 // line 3, and then line 3 breaks Order; `drop` leaves the line out; `ok` in place of a clause says that the list is still lawful.
-const ROWS: [&str; 10] = [
+const ROWS: [&str; 11] = [
     // Repeated SYN.
     "give 1 0 0 1
 packet 1 2 3 0 A open to 0 0 1
@@ -137,6 +137,29 @@ finish 15 0
 refuse 17 1
 drop 2 cause 7
 edit 3 cause 3 refuse 8 1",
+    // No room: four rows for six connections. A row is taken; it is another key's; an update records before it holds; a packet has no line.
+    "change 1
+give 1 0 0 1
+packet 1 2 3 0 A open to 0 0 1
+packet 2 4 5 0 B open to 0 0 1
+packet 3 6 7 0 C open to 0 0 1
+packet 4 8 9 0 D open to 0 0 1
+packet 5 10 11 0 E open to 0 0 1
+packet 6 12 13 0 F open to 0 0 1
+give 14 0 1 2
+record 15 0
+reserve 17 A f0
+place 19 A f0
+reserve 21 B f1
+place 23 B f1
+reserve 25 C f2
+place 27 C f2
+reserve 29 D f3
+place 31 D f3
+edit 16 order 16 reserve 29 D f0
+edit 17 order 17 place 31 E f3
+edit 9 order 9 hold 15 0
+drop 5 final 17",
     // Close, down, opened anew: without an end it must be quiet for three sweeps; another connection isn't open; it was never placed; the
     // server is known to be down; it isn't down.
     "lives 3
