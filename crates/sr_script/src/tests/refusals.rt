@@ -19,6 +19,7 @@ wrong-type shape [[shape]]
 unknown-key shape.a servers = 1;[shape];x = 1;lives = 0;a = 2
 out-of-range shape.pipes [shape];lives = 0;pipes = 0
 wrong-type shape.idle_ms [shape];lives = 0;idle_ms = '1'
+missing servers shape = { lives = 1 }
 wrong-type servers servers = 1
 out-of-range servers servers = []
 wrong-type servers[0] servers = [1]
