@@ -2,7 +2,8 @@
 --
 -- The order is for caches of 64 bytes, eight words.
 --  * The cells of the connection table come first, so that a bucket's four are one run of 32 bytes from a multiple of 32 on; then the rows
---    of full keys, so that a key's group of four is such a run too. Pipes load both for each packet, and an insertion alone stores there.
+--    of full keys, so that a key's group of four is such a run too. Pipes load both for each packet, and only an insertion or a retirement
+--    stores there.
 --  * The hit words follow in the same order, a store for a packet that is found, away from the words that each packet loads.
 --  * The tick word, which every thread changes, stands between the hit words of the full-key rows, few of which are hit, and the filter,
 --    which is used in an update alone: what stands beside it is hardly ever wanted.

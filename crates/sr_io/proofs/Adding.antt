@@ -2,7 +2,9 @@
 use Rattle.std.proofs.Common.{◌≡◌, sym, ℕ, ◌+◌, ◌≤◌, min, List, [], ◌++◌, length, Option, Some, None, refl, append_assoc, append-nil, arith}
 use Rattle.std.proofs.lemmas.List.{take-append-le, take_min}
 use Rattle.std.proofs.Math.Seq.{take-append-add, take-length}
-use Rattle.sr_io.specs.Sink.{appended, Adds, AddsFront}
+use Rattle.sr_io.specs.Sink.{appended, Adds, AddsFront, Puts}
+use Rattle.sr_io.specs.declared.sink.Put.{Put}
+use Rattle.sr_io.specs.declared.sink.Put.TheVariants.{All, Failed}
 
 appended_then : (a b : Option (List ℕ)) (x y all : List ℕ) → ((m : List ℕ) → b ≡ Some m → appended a x ≡ Some m) → appended b y ≡ Some all → appended a (x ++ y) ≡ Some all
 appended_then a None x y all first second = cc
@@ -45,3 +47,8 @@ adds_front_more x y (n, front) =
 -- these bytes, and then a prefix of those, before which more was to come
 pub adds_front_then_more : {a b c : Option (List ℕ)} {x : List ℕ} (y z : List ℕ) → Adds a b x → AddsFront b c y → AddsFront a c (x ++ (y ++ z))
 adds_front_then_more y z first second = adds_front_then (y ++ z) first (adds_front_more y z second)
+
+-- these bytes, and then what an answer says of those
+pub puts_then : {a b : Option (List ℕ)} (c : Option (List ℕ)) (put : Put) (x y : List ℕ) → Adds a b x → Puts put b c y → Puts put a c (x ++ y)
+puts_then c All x y first second = adds_then first second
+puts_then c Failed x y first second = adds_front_then y first second

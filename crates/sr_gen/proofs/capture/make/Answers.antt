@@ -1,6 +1,5 @@
-use Rattle.sr_io.proofs.Adding.{adds_front_more}
+use Rattle.sr_io.proofs.Adding.{adds_front_more, puts_then}
 use Rattle.sr_gen.specs.Capture.{capture_header, records_from, capture_of}
-use Rattle.sr_gen.proofs.Listing.{puts_then}
 use Rattle.sr_gen.proofs.capture.make.Goals as goal
 
 pub returns-in-All-clause-bytes : goal.returns-in-All-clause-bytes
