@@ -1,5 +1,5 @@
 -- Around the entry of a key the list of entries is a front, that entry and a back, with no other entry of the key.
-use Rattle.std.proofs.Common.{◌≡◌, ℕ, ◌+◌, Bool, true, false, cond, ◌&&◌, ◌||◌, not, List, [], ◌∷◌, ◌++◌, map, filter, find, count_by, Option, None, Some, refl, sym, ◌∙◌, ap, subst, true≢false, if◌then◌else◌, arith}
+use Rattle.std.proofs.Common.{◌≡◌, ℕ, ◌+◌, Bool, true, false, cond, ◌&&◌, ◌||◌, not, List, [], ◌∷◌, ◌++◌, map, filter, find, count_by, Option, None, Some, refl, sym, ◌∙◌, ap, subst, true≢false, is_some, if◌then◌else◌, arith}
 use Rattle.std.proofs.lemmas.Bool.Decides.{nat_tests}
 use Rattle.std.proofs.lemmas.List.{map-append}
 use Rattle.std.proofs.lemmas.List.Elements.{filter-append}
@@ -28,7 +28,7 @@ pub record Split (key : KeyView) (es : List Entry) (e : Entry) : Type 0 where
 
 -- a registered key splits the list
 pub split : (key : KeyView) (es : List Entry) (e : Entry) → DistinctKeys es → entry_for key es ≡ Some e → Split key es e
-split key [] e d h = elim h [ ]
+split key [] e d h = absurd (true≢false (sym (ap is_some h)))
 split key (x ∷ xs) e d h = by (is_of key x) refl (split key xs e d.1)
   where
     some_same : (a b : Entry) → Some a ≡ Some b → a ≡ b
