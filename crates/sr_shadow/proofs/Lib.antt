@@ -1,1 +1,4 @@
+pub mod Classes
+pub mod Lookups
 pub mod Splits
+pub mod Tables

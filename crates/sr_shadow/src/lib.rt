@@ -9,7 +9,11 @@
 //! | `numbers`, `counts`, `rivals`, `holders` | what finds a key's entry, how many keys have a version, who clashes with a key, who holds a place |
 #![tactic(auto)]
 
+mod counts;
 mod entry;
+mod numbers;
+mod rivals;
+mod tally;
 mod took;
 
 pub use entry::Entry;
