@@ -1,4 +1,5 @@
 pub mod Classes
 pub mod Lookups
+pub mod Places
 pub mod Splits
 pub mod Tables

@@ -1,12 +1,12 @@
 -- The controller's book: the entries of the registered keys in the order of taking. A key is registered where an entry is its.
-use Rattle.std.specs.Prelude.{◌≡◌, ℕ, ◌+◌, ◌<◌, Bool, true, false, not, ◌&&◌, nat_le, List, [], ◌∷◌, ◌++◌, map, filter, find, count_by, is_some, Option, Some, None, option_map, if◌then◌else◌}
+use Rattle.std.specs.Prelude.{◌≡◌, ℕ, ◌+◌, ◌<◌, ◌≤◌, Bool, true, false, not, ◌&&◌, nat_le, List, [], ◌∷◌, ◌++◌, map, filter, find, count_by, sum_by, is_some, Option, Some, None, option_map, if◌then◌else◌}
 use Rattle.std.specs.List.{list_any}
 use Rattle.sr_base.specs.Key.{KeyView}
 use Rattle.sr_base.specs.Layout.{LayoutView}
 use Rattle.sr_base.specs.declared.place.Place.{Place}
 use Rattle.sr_base.specs.declared.shape.Shape.{Shape}
 use Rattle.sr_hash.specs.Clash.{clashes}
-use Rattle.sr_shadow.specs.Entry.{is_of, is_pending, is_placed, is_outside, holds, has_version, fresh, closed, settled, left_other, swept}
+use Rattle.sr_shadow.specs.Entry.{is_of, is_pending, is_placed, is_outside, holds, times_held, has_version, fresh, closed, settled, left_other, swept}
 use Rattle.sr_shadow.specs.declared.entry.Entry.{Entry}
 
 -- The book: the layout that it was made of, the entries in the order of taking, how many were ever taken, and the key, if any, for whose entry
@@ -103,3 +103,7 @@ CanSweep key entries = (e : Entry) × (entry_for key entries ≡ Some e) × (is_
 abbrev pub DistinctKeys : List Entry → Type 0
 DistinctKeys [] = Unit {0}
 DistinctKeys (e ∷ entries) = (is_registered e.key entries ≡ false) × DistinctKeys entries
+
+-- no place is held twice, by two entries or by one
+abbrev pub HeldOnce : List Entry → Type 0
+HeldOnce entries = (place : Place) → sum_by (times_held place) entries ≤ 1

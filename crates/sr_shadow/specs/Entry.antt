@@ -1,5 +1,5 @@
 -- An entry of the book, and what becomes of it.
-use Rattle.std.specs.Prelude.{ℕ, ◌+◌, min, Bool, true, false, ◌&&◌, ◌||◌, ◌==◌, not, is_some, is_none, if◌then◌else◌, Option, Some, None}
+use Rattle.std.specs.Prelude.{ℕ, ◌+◌, min, Bool, true, false, cond, ◌&&◌, ◌||◌, ◌==◌, not, is_some, is_none, if◌then◌else◌, Option, Some, None}
 use Rattle.sr_base.specs.Key.{KeyView}
 use Rattle.sr_base.specs.declared.place.Place.{Place}
 use Rattle.sr_base.specs.declared.place.Place.TheVariants.{Slot, Row}
@@ -46,6 +46,9 @@ is_outside e = not (is_row e.place)
 -- the entry has this place, as the Live one or as the one that it is about to leave
 abbrev pub holds : Place → Entry → Bool
 holds place e = is_at place e.place || is_at place e.also
+
+abbrev pub times_held : Place → Entry → ℕ
+times_held place e = cond (is_at place e.place) 1 0 + cond (is_at place e.also) 1 0
 
 -- the key has this virtual address, and this version of its pool
 abbrev pub has_version : ℕ → ℕ → Entry → Bool

@@ -11,6 +11,7 @@
 
 mod counts;
 mod entry;
+mod holders;
 mod numbers;
 mod rivals;
 mod tally;
