@@ -4,4 +4,6 @@ pub mod Entry
 pub mod Holders
 pub mod Numbers
 pub mod Rivals
+pub mod Roll
+pub mod Standin
 pub mod Taking
