@@ -2,9 +2,8 @@
 //!
 //! | part | what it is |
 //! |---|---|
-//! | `marks` | the list of marks |
 #![tactic(auto)]
 
-mod marks;
+mod level;
 
-pub use marks::Marks;
+pub use level::Level;
