@@ -1,3 +1,5 @@
+pub mod Levels
 pub mod Pairing
 pub mod SetMarks
+pub mod Walks
 pub mod Weighing

@@ -21,7 +21,11 @@ unfoldable pub level_of : ℕ → List ℕ → List ℕ
 level_of zero xs = xs
 level_of (suc i) xs = pairs (level_of i xs)
 
--- levels of a list of counts: the list itself, then the sums of neighbours of each level below, until one sum is left
+-- the lowest of some levels
+abbrev pub lowest : List (List ℕ) → List ℕ
+lowest levels = get_or levels 0 []
+
+-- Levels of a list of counts: the list itself, then the sums of neighbours of each level below, until one sum is left.
 pub record AreLevels (levels : List (List ℕ)) (xs : List ℕ) : Type 0 where
   pub each : (i : ℕ) → i < length levels → get_or levels i [] ≡ level_of i xs
   pub one : length (level_of (length levels) xs) ≤ 1
