@@ -1,6 +1,6 @@
 -- Walks over the levels: how they are made, and how a sum, a position and a change go from one to the next.
 use Rattle.std.proofs.Common.{◌≡◌, ℕ, zero, suc, ◌+◌, ◌-◌, ◌*◌, ◌/◌, ◌%◌, ◌^◌, ◌<◌, ◌≤◌, ◌≢◌, List, [], ◌∷◌, ◌++◌, length, get_or, take, set, inl, inr, ap, sym, refl, ◌∙◌, subst, arith, add-one, length-append, length-set, get_or-set_same, get_or-set_other}
-use Rattle.std.proofs.lemmas.List.{get_or_append_left, get_or_push, length_push, get_or_past}
+use Rattle.std.proofs.lemmas.List.{get_or_append_left, get_or_push, length_push, get_or_read}
 use Rattle.std.proofs.lemmas.Bool.{cases_lt, cases_eq}
 use Rattle.sr_marks.specs.Counts.{total, total_before, pairs, level_of, lowest, AreLevels}
 use Rattle.sr_marks.proofs.Pairing.{total-pairs, length-pairs, get_or-pairs, before-pairs, before_more, entry-le, pairs-set}
@@ -229,3 +229,17 @@ changing_all old new xs ys many levels first i at are sized changed over =
 -- and the lowest is ys
 pub changing_is : (levels : List (List ℕ)) (ys : List ℕ) → AreLevels levels ys → 0 < length levels → lowest levels ≡ ys
 changing_is levels ys are some = are.each 0 some ∙ level_zero ys
+
+-- a level that is read from its place, as the code reads it
+pub level-read : (levels items : List (List ℕ)) (xs level : List ℕ) (i : ℕ) → AreLevels levels (lowest levels) → lowest levels ≡ xs → items ≡ levels → i < length levels → level ≡ get_or items i level → level ≡ level_of i xs
+level-read levels items xs level i are is same below read =
+    get_or_read levels i level below (read ∙ ap (λ ls. get_or ls i level) same) [] ∙ (are.each i below ∙ ap (λ zs. level_of i zs) is)
+
+-- the levels of a list that is known by another name
+pub levels-under : (levels : List (List ℕ)) (xs : List ℕ) → AreLevels levels (lowest levels) → lowest levels ≡ xs → AreLevels levels xs
+levels-under levels xs are is = subst (λ (zs : List ℕ). AreLevels levels zs) is are
+
+-- where the list has a count, there is a level
+pub some_level : (levels : List (List ℕ)) (at : ℕ) → at < length (lowest levels) → 0 < length levels
+some_level [] at within = absurd (omega arith)
+some_level (level ∷ rest) at within = omega arith

@@ -4,6 +4,7 @@
 //! |---|---|
 #![tactic(auto)]
 
+mod counts;
 mod level;
 
-pub use level::Level;
+pub use counts::Counts;
