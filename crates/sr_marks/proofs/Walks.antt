@@ -18,10 +18,10 @@ growing_none xs = record { each = λ i below. absurd (omega arith); next = sym (
 each_more : (levels : List (List ℕ)) (level xs : List ℕ) → Growing levels level xs → (i : ℕ) → i < length levels + 1 → get_or (levels ++ level ∷ []) i [] ≡ level_of i xs
 each_more levels level xs grown i below =
     elim (cases_lt i (length levels)) [
-      inl inside ↦ get_or_append_left levels (level ∷ []) [] i inside ∙ grown.each i inside
+      | inl inside ↦ get_or_append_left levels (level ∷ []) [] i inside ∙ grown.each i inside
       | inr past ↦
-        let last : length levels ≡ i = omega arith in
-        get_or_push levels level [] i last ∙ (grown.next ∙ ap (λ n. level_of n xs) last)
+          let last : length levels ≡ i = omega arith in
+          get_or_push levels level [] i last ∙ (grown.next ∙ ap (λ n. level_of n xs) last)
     ]
 
 pub growing_more : (levels more : List (List ℕ)) (level above xs : List ℕ) → Growing levels level xs → more ≡ levels ++ level ∷ [] → above ≡ pairs level → Growing more above xs
@@ -162,9 +162,9 @@ changing_none old new xs ys levels at v are within some count written = record {
   within = rw level_zero within;
   some = rw level_zero some;
   here = λ w e.
-  let value : w + old ≡ get_or xs at 0 + new = rw level_zero at e in
-  let same : v ≡ w = omega arith in
-  level_zero ys ∙ (written ∙ (ap (λ k. set xs at k) same ∙ ap (λ zs. set zs at w) (sym (level_zero xs))));
+      let value : w + old ≡ get_or xs at 0 + new = rw level_zero at e in
+      let same : v ≡ w = omega arith in
+      level_zero ys ∙ (written ∙ (ap (λ k. set xs at k) same ∙ ap (λ zs. set zs at w) (sym (level_zero xs))));
 }
 
 -- the count to change is in each level's list
@@ -186,7 +186,7 @@ half_count : (xs : List ℕ) (at : ℕ) → get_or xs at 0 ≤ get_or (pairs xs)
 half_count xs at =
     let pair = get_or-pairs xs (at / 2) in
     elim (cases_eq (at % 2) 0) [
-      inl even ↦ let half : 2 * (at / 2) ≡ at = omega arith in let same : get_or xs (2 * (at / 2)) 0 ≡ get_or xs at 0 = ap (λ k. get_or xs k 0) half in omega arith
+      | inl even ↦ let half : 2 * (at / 2) ≡ at = omega arith in let same : get_or xs (2 * (at / 2)) 0 ≡ get_or xs at 0 = ap (λ k. get_or xs k 0) half in omega arith
       | inr odd ↦ let half : 2 * (at / 2) + 1 ≡ at = omega arith in let same : get_or xs (2 * (at / 2) + 1) 0 ≡ get_or xs at 0 = ap (λ k. get_or xs k 0) half in omega arith
     ]
 
@@ -204,15 +204,15 @@ changing_more old new xs ys many levels next i at v changed below count written 
     record {
       long = ap length written ∙ (length-set levels i _ ∙ changed.long);
       done = λ j passed inside. elim (cases_eq j i) [
-        inl same_place ↦ subst (λ (k : ℕ). get_or next k [] ≡ level_of k ys) (sym same_place) here
+        | inl same_place ↦ subst (λ (k : ℕ). get_or next k [] ≡ level_of k ys) (sym same_place) here
         | inr other ↦ ap (λ zs. get_or zs j []) written ∙ (get_or-set_other levels i j _ [] other ∙ changed.done j (omega arith) inside)
       ];
       left = λ j above inside. let other : j ≢ i = omega arith in ap (λ zs. get_or zs j []) written ∙ (get_or-set_other levels i j _ [] other ∙ changed.left j (omega arith) inside);
       within = rw level_more (omega arith);
       some = rw level_more (omega arith);
       here = λ w e.
-      let value : w + old ≡ get_or (pairs (level_of i xs)) (at / 2) 0 + new = rw level_more at e in
-      level_more i ys ∙ (ap pairs (changed.here v (omega arith)) ∙ (pairs-set (level_of i xs) at v w within (omega arith) ∙ ap (λ zs. set zs (at / 2) w) (sym (level_more i xs))));
+          let value : w + old ≡ get_or (pairs (level_of i xs)) (at / 2) 0 + new = rw level_more at e in
+          level_more i ys ∙ (ap pairs (changed.here v (omega arith)) ∙ (pairs-set (level_of i xs) at v w within (omega arith) ∙ ap (λ zs. set zs (at / 2) w) (sym (level_more i xs))));
     }
 
 pub changing_all : (old new : ℕ) (xs ys : List ℕ) (many : ℕ) (levels first : List (List ℕ)) (i at : ℕ) → AreLevels first xs → length first ≡ many → Changing old new xs ys many levels i at → many ≡ i → AreLevels levels ys

@@ -1,5 +1,5 @@
 ghost use Rattle.std.specs.Prelude.{◌≡◌, ◌+◌, ◌-◌, ◌^◌, ◌<◌, ◌≤◌, [], length, slice_index, slice_set, IfOk};
-ghost use Rattle.sr_marks.specs.Counts.{total, total_before};
+ghost use Rattle.sr_marks.specs.Counts.{total, total_before, weights};
 
 use crate::level::Level;
 use std::alloc::{AllocError, Global};
@@ -33,6 +33,16 @@ impl Counts {
         Counts {
             levels: Vec::new(alloc),
         }
+    }
+
+    /// Marks as counts, and zeros up to this capacity.
+    pub fn of(alloc: Global, marks: &[bool], capacity: usize) -> Result<Counts, AllocError>
+        requires fits { length marks.now ≤ capacity }
+        requires short { capacity < 2 ^ 32 }
+        ensures { IfOk result (λ c. c ≡ weights marks.now (capacity - length marks.now)) }
+    {
+        let lowest = Level::of(alloc, marks, capacity)?;
+        Counts::over(alloc, lowest)
     }
 
     /// The counts of this level, with the levels of sums above it.

@@ -2,9 +2,19 @@
 //!
 //! | part | what it is |
 //! |---|---|
+//! | `marks` | the list of marks, beside their counts |
+//! | `counts` | a list of counts under levels of sums: the sum before a position, and the position that a sum reaches |
+//! | `level` | the counts of one level |
+//!
+//! The definitions of what is asked of a list of marks stand in `specs/Marks.antt`, what callers may want to know of them in
+//! `proofs/SetMarks.antt`.
 #![tactic(auto)]
 
 mod counts;
 mod level;
+mod marks;
 
-pub use counts::Counts;
+pub use marks::Marks;
+
+#[cfg(test)]
+mod tests;

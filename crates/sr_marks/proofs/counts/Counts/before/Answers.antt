@@ -16,7 +16,7 @@ loop-level-preserved c =
     let i = c.loop-level.level-index in
     let here = level-read c.self.inside.levels.items c.deref-level-items.result.now xs c.level-item.result i c.self.invariant c.self.view_is c.deref-level-items.ensures.value (omega arith) c.level-item.is in
     elim c.if-at-eq1.branch [
-      then-at-eq1 w ↦ summing_odd xs c.level-item.result c.args.at i c.loop-level.at c.loop-level.sum c.if-at-eq1.sum c.loop-level.invariant here w.if-at-eq1.true (omega (arith, w.get-sum.ensures, w.sum-is))
+      | then-at-eq1 w ↦ summing_odd xs c.level-item.result c.args.at i c.loop-level.at c.loop-level.sum c.if-at-eq1.sum c.loop-level.invariant here w.if-at-eq1.true (omega (arith, w.get-sum.ensures, w.sum-is))
       | else-at-eq1 w ↦ rw w.sum-is (summing_even xs c.args.at i c.loop-level.at c.loop-level.sum c.loop-level.invariant (omega arith))
     ]
 
