@@ -6,7 +6,7 @@ use Rattle.std.proofs.lemmas.List.Elements.{filter_map-append}
 use Rattle.std.specs.List.{position_or_len}
 use Rattle.std.specs.Map.{keys_of, lookup, set_value}
 use Rattle.std.specs.Prelude.{slice_get, option_and_then}
-use Rattle.sr_shadow.specs.Standin.{count_set, nth_set, next_set}
+use Rattle.sr_marks.specs.Marks.{count_set, nth_set, next_set}
 use Rattle.sr_shadow.specs.Entry.{is_pending, is_placed}
 use Rattle.sr_shadow.specs.Roll.{entries_in, entry_at, entry_found, passes, HasNumber, Rising, Stands}
 use Rattle.sr_shadow.specs.declared.entry.Entry.{Entry}
@@ -82,7 +82,7 @@ pub record Around (low high : ℕ) (slots : List (ℕ × Option Entry)) (front b
   pub is : slots ≡ before ++ (e.taken, Some e) ∷ after
   pub front_is : entries_in before ≡ front
   pub back_is : entries_in after ≡ back
-  pub low : low ≤ e.taken
+  pub least : low ≤ e.taken
   pub at : position_or_len (eqb e.taken) (keys_of slots) ≡ length before
   pub found : lookup (eqb e.taken) slots ≡ Some (Some e)
   pub put : (v : Option Entry) → set_value (eqb e.taken) slots v ≡ before ++ (e.taken, v) ∷ after
@@ -94,24 +94,24 @@ around low high [] [] back e h is = absurd (true≢false (ap no_entry is))
 around low high [] (f ∷ front) back e h is = absurd (true≢false (ap no_entry is))
 around low high ((n, None) ∷ slots) front back e h is =
     let rest = around (n + 1) high slots front back e h.2 is in
-    let apart : eqb e.taken n ≡ false = grind (arith, nat_tests, rest.low) in
+    let apart : eqb e.taken n ≡ false = grind (arith, nat_tests, rest.least) in
     record {
         before = (n, None) ∷ rest.before; after = rest.after; is = ap (λ ss. (n, None) ∷ ss) rest.is; front_is = rest.front_is; back_is = rest.back_is;
-        low = omega (arith, h.0, rest.low); at = grind (arith, apart, rest.at); found = grind (arith, apart, rest.found);
+        least = omega (arith, h.0, rest.least); at = grind (arith, apart, rest.at); found = grind (arith, apart, rest.found);
         put = λ v. grind (arith, apart, rest.put v); rising = λ v hv. (h.0, tt, rest.rising v hv)
     }
 around low high ((n, Some x) ∷ slots) [] back e h is =
     subst (λ y. Around low high ((n, Some x) ∷ slots) [] back y) (ap (first_or x) is) (record {
         before = []; after = slots; is = ap (λ k. (k, Some x) ∷ slots) (sym h.1); front_is = refl; back_is = ap (drop 1) is;
-        low = omega (arith, h.0, h.1); at = grind (arith, nat_tests, h.1); found = grind (arith, nat_tests, h.1);
+        least = omega (arith, h.0, h.1); at = grind (arith, nat_tests, h.1); found = grind (arith, nat_tests, h.1);
         put = λ v. grind (arith, nat_tests, h.1); rising = λ v hv. (omega (arith, h.0, h.1), hv, subst (λ k. Rising (k + 1) slots high) (sym h.1) h.2)
     })
 around low high ((n, Some x) ∷ slots) (f ∷ front) back e h is =
     let rest = around (n + 1) high slots front back e h.2 (ap (drop 1) is) in
-    let apart : eqb e.taken n ≡ false = grind (arith, nat_tests, rest.low) in
+    let apart : eqb e.taken n ≡ false = grind (arith, nat_tests, rest.least) in
     record {
         before = (n, Some x) ∷ rest.before; after = rest.after; is = ap (λ ss. (n, Some x) ∷ ss) rest.is; front_is = grind (arith, ap (first_or x) is, rest.front_is); back_is = rest.back_is;
-        low = omega (arith, h.0, rest.low); at = grind (arith, apart, rest.at); found = grind (arith, apart, rest.found);
+        least = omega (arith, h.0, rest.least); at = grind (arith, apart, rest.at); found = grind (arith, apart, rest.found);
         put = λ v. grind (arith, apart, rest.put v); rising = λ v hv. (h.0, h.1, rest.rising v hv)
     }
 

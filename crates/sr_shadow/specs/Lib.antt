@@ -5,5 +5,4 @@ pub mod Holders
 pub mod Numbers
 pub mod Rivals
 pub mod Roll
-pub mod Standin
 pub mod Taking
