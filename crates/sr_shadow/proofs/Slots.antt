@@ -4,6 +4,8 @@ use Rattle.std.proofs.lemmas.Bool.Decides.{nat_tests}
 use Rattle.std.proofs.lemmas.Grind.{common_steps}
 use Rattle.std.proofs.lemmas.List.Elements.{filter_map-append}
 use Rattle.std.specs.List.{position_or_len}
+use Rattle.std.specs.List.Sorted.{IsPartitionedBy, IsPartitionPoint}
+use Rattle.std.proofs.lemmas.List.{map-append}
 use Rattle.std.specs.Map.{keys_of, lookup, set_value}
 use Rattle.std.specs.Prelude.{slice_get, option_and_then}
 use Rattle.sr_marks.specs.Marks.{count_set, nth_set, next_set}
@@ -120,3 +122,69 @@ pub marks_set : (test : ℕ × Option Entry → Bool) (before after : List (ℕ 
     → set (map test (before ++ s ∷ after)) (length before) (test t) ≡ map test (before ++ t ∷ after)
 marks_set test [] after s t = refl
 marks_set test (x ∷ before) after s t = ap (λ ms. test x ∷ ms) (marks_set test before after s t)
+
+-- marks that keep in step
+pub stands_more : (ins waiting standing : List Bool) (slots : List (ℕ × Option Entry)) (s : ℕ × Option Entry) → Stands ins waiting standing slots
+    → Stands (ins ++ is_some s.1 ∷ []) (waiting ++ passes is_pending s.1 ∷ []) (standing ++ passes is_placed s.1 ∷ []) (slots ++ s ∷ [])
+stands_more ins waiting standing slots s h =
+    record {
+        live = ap (λ ms. ms ++ is_some s.1 ∷ []) h.live ∙ sym (map-append (λ x. is_some x.1) slots (s ∷ []));
+        pending = ap (λ ms. ms ++ passes is_pending s.1 ∷ []) h.pending ∙ sym (map-append (λ x. passes is_pending x.1) slots (s ∷ []));
+        placed = ap (λ ms. ms ++ passes is_placed s.1 ∷ []) h.placed ∙ sym (map-append (λ x. passes is_placed x.1) slots (s ∷ []))
+    }
+
+pub stands_set : (ins waiting standing : List Bool) (before after : List (ℕ × Option Entry)) (s t : ℕ × Option Entry) (at : ℕ) → at ≡ length before → Stands ins waiting standing (before ++ s ∷ after)
+    → Stands (set ins at (is_some t.1)) (set waiting at (passes is_pending t.1)) (set standing at (passes is_placed t.1)) (before ++ t ∷ after)
+stands_set ins waiting standing before after s t at is h =
+    record {
+        live = rw (is, h.live) (marks_set (λ x. is_some x.1) before after s t);
+        pending = rw (is, h.pending) (marks_set (λ x. passes is_pending x.1) before after s t);
+        placed = rw (is, h.placed) (marks_set (λ x. passes is_placed x.1) before after s t)
+    }
+
+-- the lowest numbers
+rising_at : (low high : ℕ) (slots : List (ℕ × Option Entry)) (j : ℕ) (d : ℕ × Option Entry) → Rising low slots high → j < length slots → low ≤ (get_or slots j d).0
+rising_at low high [] j d h l = absurd (omega (arith, l))
+rising_at low high (s ∷ slots) zero d h l = h.0
+rising_at low high (s ∷ slots) (suc j) d h l = omega (arith, h.0, rising_at (s.0 + 1) high slots j d h.2 (omega (arith, l)))
+
+pub rising_parts : (number low high : ℕ) (slots : List (ℕ × Option Entry)) → Rising low slots high → IsPartitionedBy (λ s. ltb s.0 number) slots
+rising_parts number low high [] h i j d le l t = absurd (omega (arith, l))
+rising_parts number low high (s ∷ slots) h zero zero d le l t = t
+rising_parts number low high (s ∷ slots) h zero (suc j) d le l t = grind (arith, nat_tests, t, rising_at (s.0 + 1) high slots j d h.2 (omega (arith, l)))
+rising_parts number low high (s ∷ slots) h (suc i) zero d le l t = absurd (omega (arith, le))
+rising_parts number low high (s ∷ slots) h (suc i) (suc j) d le l t = rising_parts number (s.0 + 1) high slots h.2 i j d (omega (arith, le)) (omega (arith, l)) t
+
+-- from a number on is from a slot on
+pub from_number : (test : Entry → Bool) (number low high : ℕ) (slots : List (ℕ × Option Entry)) (from : ℕ) → Rising low slots high
+    → IsPartitionPoint (λ s. ltb s.0 number ≡ true) (λ s. ltb s.0 number ≡ false) slots from
+    → find (λ e. leb number e.taken && test e) (entries_in slots) ≡ find test (entries_in (drop from slots))
+from_number test number low high [] zero h p = refl
+from_number test number low high [] (suc from) h p = refl
+from_number test number low high ((n, None) ∷ slots) zero h p =
+    from_number test number (n + 1) high slots zero h.2 (λ k d a b. absurd (omega (arith, b)), λ k d a b. p.1 (suc k) d (omega arith) (omega (arith, b)))
+from_number test number low high ((n, Some e) ∷ slots) zero h p =
+    let rest = from_number test number (n + 1) high slots zero h.2 (λ k d a b. absurd (omega (arith, b)), λ k d a b. p.1 (suc k) d (omega arith) (omega (arith, b))) in
+    let above : ltb n number ≡ false = p.1 0 (n, Some e) (omega arith) (omega arith) in
+    grind (arith, nat_tests, rest, above, h.1)
+from_number test number low high ((n, None) ∷ slots) (suc from) h p =
+    from_number test number (n + 1) high slots from h.2 (λ k d a b. p.0 (suc k) d (omega arith) (omega (arith, b)), λ k d a b. p.1 (suc k) d (omega (arith, a)) (omega (arith, b)))
+from_number test number low high ((n, Some e) ∷ slots) (suc from) h p =
+    let rest = from_number test number (n + 1) high slots from h.2 (λ k d a b. p.0 (suc k) d (omega arith) (omega (arith, b)), λ k d a b. p.1 (suc k) d (omega (arith, a)) (omega (arith, b))) in
+    let below : ltb n number ≡ true = p.0 0 (n, Some e) (omega arith) (omega arith) in
+    grind (arith, nat_tests, rest, below, h.1)
+
+-- the slots without those whose entries are out
+pub filtered_entries : (slots : List (ℕ × Option Entry)) → entries_in (filter (λ s. is_some s.1) slots) ≡ entries_in slots
+filtered_entries [] = refl
+filtered_entries ((n, None) ∷ slots) = filtered_entries slots
+filtered_entries ((n, Some e) ∷ slots) = ap (λ es. e ∷ es) (filtered_entries slots)
+
+rising_lower : (low less high : ℕ) (slots : List (ℕ × Option Entry)) → less ≤ low → Rising low slots high → Rising less slots high
+rising_lower low less high [] le h = omega (arith, le, h)
+rising_lower low less high (s ∷ slots) le h = (omega (arith, le, h.0), h.1, h.2)
+
+pub rising_filtered : (low high : ℕ) (slots : List (ℕ × Option Entry)) → Rising low slots high → Rising low (filter (λ s. is_some s.1) slots) high
+rising_filtered low high [] h = h
+rising_filtered low high ((n, None) ∷ slots) h = rising_lower (n + 1) low high (filter (λ s. is_some s.1) slots) (omega (arith, h.0)) (rising_filtered (n + 1) high slots h.2)
+rising_filtered low high ((n, Some e) ∷ slots) h = (h.0, h.1, rising_filtered (n + 1) high slots h.2)

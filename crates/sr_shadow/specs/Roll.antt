@@ -1,7 +1,8 @@
 -- The entries in the order of taking, as slots: each has the number of its entry, and the entry, or nothing once that is out.
-use Rattle.std.specs.Prelude.{◌≡◌, ℕ, ◌+◌, ◌≤◌, ◌<◌, Bool, true, false, not, List, [], ◌∷◌, map, filter_map, is_some, Option, None, Some, slice_get, option_and_then, MatchOption}
+use Rattle.std.specs.Prelude.{◌≡◌, ℕ, ◌+◌, ◌≤◌, ◌<◌, min, Bool, true, false, not, List, [], ◌∷◌, ◌++◌, option_to_list, map, filter_map, is_some, Option, None, Some, slice_get, option_and_then, MatchOption}
 use Rattle.sr_shadow.specs.Entry.{is_pending, is_placed}
 use Rattle.sr_shadow.specs.declared.entry.Entry.{Entry}
+use Rattle.sr_shadow.specs.declared.standing.Standing.{Standing}
 
 -- the entries that are still in
 abbrev pub entries_in : List (ℕ × Option Entry) → List Entry
@@ -36,3 +37,31 @@ pub record Stands (ins waiting standing : List Bool) (slots : List (ℕ × Optio
   pub live : ins ≡ map (λ s. is_some s.1) slots
   pub pending : waiting ≡ map (λ s. passes is_pending s.1) slots
   pub placed : standing ≡ map (λ s. passes is_placed s.1) slots
+
+-- the marks of a `Standing` are those of the slots
+abbrev pub StandsFor : Standing → List (ℕ × Option Entry) → Type 0
+StandsFor s slots = Stands s.live.marks s.pending.marks s.placed.marks slots
+
+-- it takes one more slot without memory
+abbrev pub standing_room : Standing → ℕ
+standing_room s = min s.live.room (min s.pending.room s.placed.room)
+
+-- the roll: the entries in, how many were ever taken, how many more go in without memory
+pub record RollView : Type 0 where
+  pub entries : List Entry
+  pub taken : ℕ
+  pub room : ℕ
+
+-- what holds of a roll's parts
+pub record IsRoll (slots : List (ℕ × Option Entry)) (standing : Standing) (taken : ℕ) : Type 0 where
+  pub rising : Rising 0 slots taken
+  pub stands : StandsFor standing slots
+
+-- an entry of this number is in
+abbrev pub HasEntry : List Entry → ℕ → Type 0
+HasEntry es number = (front : List Entry) × (back : List Entry) × (e : Entry) × (es ≡ front ++ e ∷ back) × (e.taken ≡ number)
+
+-- of an entry's list, the same with something else in its place
+abbrev pub Replaces : List Entry → List Entry → ℕ → Option Entry → Type 0
+Replaces old new number other =
+    (front back : List Entry) (e : Entry) → old ≡ front ++ e ∷ back → e.taken ≡ number → new ≡ front ++ (option_to_list other ++ back)

@@ -14,6 +14,8 @@ mod entry;
 mod holders;
 mod numbers;
 mod rivals;
+mod roll;
+mod standing;
 mod tally;
 mod took;
 
