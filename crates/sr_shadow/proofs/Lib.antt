@@ -1,0 +1,6 @@
+pub mod Classes
+pub mod Lookups
+pub mod Places
+pub mod Slots
+pub mod Splits
+pub mod Tables
