@@ -1,3 +1,4 @@
+pub mod Books
 pub mod Classes
 pub mod Lookups
 pub mod Places
