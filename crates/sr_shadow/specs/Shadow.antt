@@ -23,7 +23,7 @@ pub record IsShadow (layout : LayoutView) (es : List Entry) (taken : ℕ) (numbe
 abbrev pub HasRoom : Option KeyView → ℕ → ℕ → ℕ → ℕ → Type 0
 HasRoom ready roll numbers one two = MatchOption ready (Unit {0}) (λ key. (0 < roll) × (0 < numbers) × (0 < one) × (0 < two))
 
--- an entry may stand in the place of its key's: all that the indexes know of it is the same
-abbrev pub CanNote : Entry → List Entry → Type 0
-CanNote f entries =
-    (e : Entry) × (entry_for f.key entries ≡ Some e) × (f.version ≡ e.version) × (f.place ≡ e.place) × (f.also ≡ e.also) × (f.taken ≡ e.taken)
+-- an entry may stand in the place of the key's: all that the indexes know of it is the same
+abbrev pub CanNote : KeyView → Entry → List Entry → Type 0
+CanNote key f entries =
+    (e : Entry) × (entry_for key entries ≡ Some e) × (f.key ≡ e.key) × (f.version ≡ e.version) × (f.place ≡ e.place) × (f.also ≡ e.also) × (f.taken ≡ e.taken)

@@ -1,9 +1,10 @@
 ghost use Rattle.std.specs.Prelude.{◌≡◌, ◌≢◌, ◌+◌, ◌^◌, ◌<◌, ◌≤◌, ◌∷◌, ◌++◌, List, length, slice_get, find, count_by, true, false, is_some, option_copied, option_to_list, Option, Some, None, IsOk, IfOk, OnOk, OnErr};
-ghost use Rattle.sr_shadow.specs.Book.{entry_for, is_registered, pending_from, placed_from, holder_of, count_of, is_clashing, opened, reserved_for, with_changed, with_new, with_closed, with_settled, with_left, with_swept, with_retired, CanSettle, CanLeave, CanSweep, IsBook};
-ghost use Rattle.sr_shadow.specs.Entry.{holds, is_at, same_place};
+ghost use Rattle.sr_shadow.specs.Book.{entry_for, is_registered, pending_from, placed_from, holder_of, count_of, is_clashing, opened, reserved_for, with_changed, with_new, with_closed, with_settled, with_left, with_swept, with_retired, CanSettle, CanLeave, CanSweep, DistinctKeys, IsBook};
+ghost use Rattle.sr_shadow.specs.Entry.{holds, is_at, quiet_after, same_place};
 ghost use Rattle.sr_shadow.specs.Rivals.{is_outsider, own_outside};
 ghost use Rattle.sr_shadow.specs.Shadow.{CanNote};
 ghost use Rattle.sr_shadow.specs.Taking.{Takes};
+ghost use Rattle.sr_shadow.specs.declared.entry.Entry.{Entry as AnEntry};
 
 use crate::counts::Counts;
 use crate::holders::{Holders, cell};
@@ -146,15 +147,14 @@ impl Shadow {
         ensures err { OnErr result (self.new ≡ self.old) }
         ensures ready { is_some self.old.ready ≡ true → IsOk result }
     {
-        match self.ready {
-            Some(_) => {}
-            None => {
-                self.roll.reserve(alloc)?;
-                self.numbers.reserve()?;
-                self.first.reserve()?;
-                self.second.reserve()?;
-            }
+        if self.ready.is_some() {
+            self.ready = Some(key);
+            return Ok(());
         }
+        self.roll.reserve(alloc)?;
+        self.numbers.reserve()?;
+        self.first.reserve()?;
+        self.second.reserve()?;
         self.ready = Some(key);
         Ok(())
     }
@@ -181,10 +181,69 @@ impl Shadow {
             Some(entry) => {
                 let mut entry = *entry;
                 entry.closed = true;
-                self.note(entry);
+                self.note(key, entry);
                 true
             }
             None => false,
+        }
+    }
+
+    /// The key is Live at the place. With a place already held, the old place goes to `also`.
+    pub fn settle(&mut self, key: Key, place: Place)
+        requires registered { CanSettle key self.old.entries }
+        requires free { holder_of place self.old.entries ≡ None }
+        ensures { self.new ≡ with_settled key place self.old }
+    {
+        match self.get(key) {
+            Some(entry) => {
+                let entry = *entry;
+                self.move_entry(key, &entry, place);
+            }
+            None => unreachable!(),
+        }
+    }
+
+    /// The key gives up the place that it had before.
+    pub fn leave(&mut self, key: Key)
+        requires { CanLeave key self.old.entries }
+        ensures { self.new ≡ with_left key self.old }
+    {
+        match self.get(key) {
+            Some(entry) => {
+                let entry = *entry;
+                self.leave_place(key, &entry);
+            }
+            None => unreachable!(),
+        }
+    }
+
+    /// A sweep went by the key's place, and found a hit there or found none.
+    pub fn swept(&mut self, key: Key, hit: bool)
+        requires { CanSweep key self.old.entries }
+        ensures { self.new ≡ with_swept key hit self.old }
+    {
+        match self.get(key) {
+            Some(entry) => {
+                let mut entry = *entry;
+                entry.quiet = Some(quiet_after(hit, entry.quiet));
+                self.note(key, entry);
+            }
+            None => unreachable!(),
+        }
+    }
+
+    /// The connection is over: the key's entry, which the book has no more. None where it isn't registered.
+    pub fn retire(&mut self, key: Key) -> Option<Entry>
+        ensures entry { result ≡ entry_for key self.old.entries }
+        ensures retired { self.new ≡ with_retired key self.old }
+    {
+        match self.get(key) {
+            Some(entry) => {
+                let entry = *entry;
+                self.drop_entry(key, &entry);
+                Some(entry)
+            }
+            None => None,
         }
     }
 
@@ -192,13 +251,17 @@ impl Shadow {
     fn has(&self, key: Key) -> bool
         ensures { result ≡ is_registered key self.now.entries }
     {
-        self.get(key).is_some()
+        match self.get(key) {
+            Some(_) => true,
+            None => false,
+        }
     }
 
     // How many registered keys outside the full-key table clash with the key, itself counted.
     fn outsiders(&self, way: u8, key: Key) -> u64
         requires { (1 ≤ way) × (way ≤ 2) }
-        ensures { result ≡ count_by (is_outsider self.now.layout.shape way key) self.now.entries }
+        ensures count { result ≡ count_by (is_outsider self.now.layout.shape way key) self.now.entries }
+        ensures distinct { DistinctKeys self.now.entries }
     {
         if way == 1 {
             self.first.outsiders(&self.layout, 1, key)
@@ -212,8 +275,9 @@ impl Shadow {
         ensures { result ≡ holder_of place self.now.entries }
     {
         for i in 0..self.len() {
-            if let Some(key) = holder_if(self.at(i), place) {
-                return Some(key);
+            match holder_if(self.at(i), place) {
+                Some(key) => return Some(key),
+                None => {}
             }
         }
         None
@@ -245,12 +309,84 @@ impl Shadow {
         self.ready = None;
     }
 
-    // An entry in the place of its key's, from which the indexes can't tell it.
-    fn note(&mut self, entry: Entry)
-        requires { CanNote entry self.old.entries }
-        ensures { self.new ≡ record self.old { entries = with_changed (λ _. entry) entry.key self.old.entries } }
+    // An entry in the place of the key's, from which the indexes can't tell it.
+    fn note(&mut self, key: Key, entry: Entry)
+        requires { CanNote key entry self.old.entries }
+        ensures { (change : AnEntry → AnEntry) (e : AnEntry) → entry_for key self.old.entries ≡ Some e → entry ≡ change e → self.new ≡ record self.old { entries = with_changed change key self.old.entries } }
     {
-        self.roll.put(entry.taken, Some(entry));
+        let number = entry.taken;
+        self.roll.put(number, Some(entry));
+    }
+
+    // The key's entry moves to a place that nobody holds.
+    fn move_entry(&mut self, key: Key, entry: &Entry, place: Place)
+        requires registered { entry_for key self.old.entries ≡ Some entry.now }
+        requires alone { entry.now.also ≡ None }
+        requires free { holder_of place self.old.entries ≡ None }
+        ensures { self.new ≡ with_settled key place self.old }
+    {
+        let moved = Entry {
+            key: entry.key,
+            version: entry.version,
+            place: Some(place),
+            also: entry.place,
+            taken: entry.taken,
+            closed: entry.closed,
+            quiet: None,
+        };
+        self.first.swap(&self.layout, 1, entry, &moved);
+        self.second.swap(&self.layout, 2, entry, &moved);
+        self.holders.settle(&self.layout, entry, place);
+        self.roll.put(entry.taken, Some(moved));
+    }
+
+    // The key's entry gives up the place that it had before.
+    fn leave_place(&mut self, key: Key, entry: &Entry)
+        requires { entry_for key self.old.entries ≡ Some entry.now }
+        ensures { self.new ≡ with_left key self.old }
+    {
+        let left = Entry {
+            key: entry.key,
+            version: entry.version,
+            place: entry.place,
+            also: None,
+            taken: entry.taken,
+            closed: entry.closed,
+            quiet: entry.quiet,
+        };
+        self.holders.leave(&self.layout, entry);
+        self.roll.put(entry.taken, Some(left));
+    }
+
+    // The key's entry goes.
+    fn drop_entry(&mut self, key: Key, entry: &Entry)
+        requires { entry_for key self.old.entries ≡ Some entry.now }
+        ensures { self.new ≡ with_retired key self.old }
+    {
+        self.numbers.drop_out(key);
+        self.counts.drop_out(entry);
+        self.first.drop_out(&self.layout, 1, entry);
+        self.second.drop_out(&self.layout, 2, entry);
+        self.holders.free(&self.layout, entry);
+        self.roll.put(entry.taken, None);
+    }
+}
+
+// The quiet sweeps since the base after one more, which found a hit or found none.
+fn quiet_after(hit: bool, quiet: Option<u8>) -> u8
+    ensures { result ≡ quiet_after hit quiet }
+{
+    match quiet {
+        None => 0,
+        Some(n) => {
+            if hit {
+                0
+            } else if n < 255 {
+                n + 1
+            } else {
+                255
+            }
+        }
     }
 }
 
