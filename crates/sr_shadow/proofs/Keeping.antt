@@ -131,3 +131,7 @@ room_more (Some key) a b c d e f g h p q r s room = (omega (arith, p, room.0), o
 pub book_is : (l : LayoutView) (r : Option KeyView) (es fs : List Entry) (t u : ℕ) → es ≡ fs → t ≡ u
     → ◌≡◌ {A = Book} (record { layout = l; entries = es; taken = t; ready = r }) (record { layout = l; entries = fs; taken = u; ready = r })
 book_is l r es fs t u p q = λ i. record { layout = l; entries = p i; taken = q i; ready = r }
+
+pub shadow_conv : (l : LayoutView) (es ys : List Entry) (t u : ℕ) (numbers : ℕ → Option ℕ) (counts : List ℕ) (one two : ℕ → Option Tally) (table : List (Option KeyView))
+    → es ≡ ys → t ≡ u → IsShadow l es t numbers counts one two table → IsShadow l ys u numbers counts one two table
+shadow_conv l es ys t u numbers counts one two table p q h = subst (λ n. IsShadow l ys n numbers counts one two table) q (subst (λ zs. IsShadow l zs t numbers counts one two table) p h)
