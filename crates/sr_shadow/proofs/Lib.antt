@@ -1,4 +1,6 @@
+pub mod Books
 pub mod Classes
+pub mod Keeping
 pub mod Lookups
 pub mod Places
 pub mod Slots

@@ -238,3 +238,7 @@ cell_found l (Row row) name at named has is =
     let own : HasPlace l.shape (Row row) = subst (HasWord l) named has in
     let one : at ≡ entry_number l.shape (Row row) = is ∙ ap (place_of l) named in
     (own, one, omega (arith, one, number_below l.shape (Row row) own))
+
+-- lists with the same holders have one table
+pub held_alike : (shape : Shape) (table : List (Option KeyView)) (old new : List Entry) → ((other : Place) → holder_of other new ≡ holder_of other old) → HeldBy shape table old → HeldBy shape table new
+held_alike shape table old new same h = record { size = h.size; told = λ place has. h.told place has ∙ sym (same place) }

@@ -1,5 +1,5 @@
 -- Slots around an entry, and what their marks find.
-use Rattle.std.proofs.Common.{◌≡◌, ℕ, zero, suc, ◌+◌, ◌*◌, ◌-◌, ◌<◌, ◌≤◌, Bool, true, false, cond, not, ◌&&◌, ◌||◌, List, [], ◌∷◌, ◌++◌, map, length, set, get_or, take, drop, find, position, filter, Option, None, Some, is_some, option_map, refl, sym, ◌∙◌, ap, subst, true≢false, eqb, ltb, leb, arith}
+use Rattle.std.proofs.Common.{◌≡◌, ℕ, zero, suc, ◌+◌, ◌*◌, ◌-◌, ◌<◌, ◌≤◌, Bool, true, false, cond, not, ◌&&◌, ◌||◌, List, [], ◌∷◌, ◌++◌, map, length, set, get_or, take, drop, find, position, filter, Option, None, Some, is_some, option_map, refl, sym, ◌∙◌, ap, subst, true≢false, eqb, ltb, leb, add-one, arith}
 use Rattle.std.proofs.lemmas.Bool.Decides.{nat_tests}
 use Rattle.std.proofs.lemmas.Grind.{common_steps}
 use Rattle.std.proofs.lemmas.List.Elements.{filter_map-append}
@@ -7,10 +7,11 @@ use Rattle.std.specs.List.{position_or_len}
 use Rattle.std.specs.List.Sorted.{IsPartitionedBy, IsPartitionPoint}
 use Rattle.std.proofs.lemmas.List.{map-append}
 use Rattle.std.specs.Map.{keys_of, lookup, set_value}
-use Rattle.std.specs.Prelude.{slice_get, option_and_then}
+use Rattle.std.specs.Prelude.{slice_get, option_and_then, option_to_list}
+use Rattle.indexmap.specs.Layout.{set_value_at}
 use Rattle.sr_marks.specs.Marks.{count_set, nth_set, next_set}
 use Rattle.sr_shadow.specs.Entry.{is_pending, is_placed}
-use Rattle.sr_shadow.specs.Roll.{entries_in, entry_at, entry_found, passes, HasNumber, Rising, Stands}
+use Rattle.sr_shadow.specs.Roll.{entries_in, kept, entry_at, entry_found, passes, HasNumber, Rising, Stands}
 use Rattle.sr_shadow.specs.declared.entry.Entry.{Entry}
 
 -- a position after one slot more in front
@@ -188,3 +189,74 @@ pub rising_filtered : (low high : ℕ) (slots : List (ℕ × Option Entry)) → 
 rising_filtered low high [] h = h
 rising_filtered low high ((n, None) ∷ slots) h = rising_lower (n + 1) low high (filter (λ s. is_some s.1) slots) (omega (arith, h.0)) (rising_filtered (n + 1) high slots h.2)
 rising_filtered low high ((n, Some e) ∷ slots) h = (h.0, h.1, rising_filtered (n + 1) high slots h.2)
+
+-- a number's slot has its entry
+pub found_at : (low high number : ℕ) (slots : List (ℕ × Option Entry)) (front back : List Entry) (e : Entry) → Rising low slots high → entries_in slots ≡ front ++ e ∷ back → e.taken ≡ number
+    → lookup (eqb number) slots ≡ Some (Some e)
+found_at low high number slots front back e h is told = subst (λ n. lookup (eqb n) slots ≡ Some (Some e)) told (around low high slots front back e h is).found
+
+-- writing at a position
+written_at : (before after : List (ℕ × Option Entry)) (s : ℕ × Option Entry) (v : Option Entry) → set_value_at (before ++ s ∷ after) (length before) v ≡ before ++ (s.0, v) ∷ after
+written_at [] after s v = refl
+written_at (x ∷ before) after s v = ap (λ ss. x ∷ ss) (written_at before after s v)
+
+entries_joined : (before after : List (ℕ × Option Entry)) (n : ℕ) (v : Option Entry) → entries_in (before ++ (n, v) ∷ after) ≡ entries_in before ++ (option_to_list v ++ entries_in after)
+entries_joined before after n None = filter_map-append (λ s. s.1) before ((n, None) ∷ after)
+entries_joined before after n (Some e) = filter_map-append (λ s. s.1) before ((n, Some e) ∷ after)
+
+-- where the position of a number is, and what writing there leaves
+pub record Written (slots : List (ℕ × Option Entry)) (number at high : ℕ) (v : Option Entry) (front back : List Entry) : Type 0 where
+  pub rising : Rising 0 (set_value_at slots at v) high
+  pub entries : entries_in (set_value_at slots at v) ≡ front ++ (option_to_list v ++ back)
+  pub inside : at < length slots
+  pub before : List (ℕ × Option Entry)
+  pub after : List (ℕ × Option Entry)
+  pub own : ℕ × Option Entry
+  pub at_is : at ≡ length before
+  pub slots_is : slots ≡ before ++ own ∷ after
+  pub new_is : set_value_at slots at v ≡ before ++ (number, v) ∷ after
+
+pub written : (slots : List (ℕ × Option Entry)) (number at high : ℕ) (v : Option Entry) (front back : List Entry) (e : Entry) → Rising 0 slots high → entries_in slots ≡ front ++ e ∷ back
+    → e.taken ≡ number → HasNumber number v → Some at ≡ position (eqb number) (keys_of slots) → Written slots number at high v front back
+written slots number at high v front back e h is told numbered found =
+    let a = around 0 high slots front back e h is in
+    let same : at ≡ position_or_len (eqb number) (keys_of slots) = some_position (position_or_len (eqb number) (keys_of slots)) (length (keys_of slots)) at found in
+    let here : at ≡ length a.before = same ∙ subst (λ n. position_or_len (eqb n) (keys_of slots) ≡ length a.before) told a.at in
+    let left : set_value_at slots at v ≡ a.before ++ (e.taken, v) ∷ a.after = ap (λ ss. set_value_at ss at v) a.is ∙ ap (λ i. set_value_at (a.before ++ (e.taken, Some e) ∷ a.after) i v) here ∙ written_at a.before a.after (e.taken, Some e) v in
+    record {
+        rising = subst (λ ss. Rising 0 ss high) (sym left) (a.rising v (subst (λ n. HasNumber n v) (sym told) numbered));
+        entries = ap entries_in left ∙ entries_joined a.before a.after e.taken v ∙ ap (λ f. f ++ (option_to_list v ++ entries_in a.after)) a.front_is ∙ ap (λ b. front ++ (option_to_list v ++ b)) a.back_is;
+        inside = subst (λ ss. at < length ss) (sym a.is) (rw here (grind (arith, common_steps)));
+        before = a.before; after = a.after; own = (e.taken, Some e); at_is = here; slots_is = a.is;
+        new_is = left ∙ ap (λ n. a.before ++ (n, v) ∷ a.after) told
+    }
+  where
+    some_position : (p l at : ℕ) → Some at ≡ cond (ltb p l) (Some p) None → at ≡ p
+    some_position p l at h = by (ltb p l) h
+      where
+        by : (b : Bool) → Some at ≡ cond b (Some p) None → at ≡ p
+        by true k = grind (arith, k)
+        by false k = absurd (true≢false (ap is_some k))
+
+-- the slots that are kept, one further
+pub kept_some : (slots : List (ℕ × Option Entry)) (i : ℕ) (e : Entry) → entry_at i slots ≡ Some e
+    → (n : ℕ) × (filter (λ s. is_some s.1) (take (suc i) slots) ≡ filter (λ s. is_some s.1) (take i slots) ++ (n, Some e) ∷ [])
+kept_some [] i e h = absurd (true≢false (sym (ap is_some h)))
+kept_some ((n, None) ∷ slots) zero e h = absurd (true≢false (sym (ap is_some h)))
+kept_some ((n, Some x) ∷ slots) zero e h = (n, ap (λ y. (n, y) ∷ []) h)
+kept_some ((n, None) ∷ slots) (suc i) e h = kept_some slots i e h
+kept_some ((n, Some x) ∷ slots) (suc i) e h = let r = kept_some slots i e h in (r.0, ap (λ ss. (n, Some x) ∷ ss) r.1)
+
+pub kept_none : (slots : List (ℕ × Option Entry)) (i : ℕ) → entry_at i slots ≡ None → filter (λ s. is_some s.1) (take (suc i) slots) ≡ filter (λ s. is_some s.1) (take i slots)
+kept_none [] zero h = refl
+kept_none [] (suc i) h = refl
+kept_none ((n, None) ∷ slots) zero h = refl
+kept_none ((n, Some x) ∷ slots) zero h = absurd (true≢false (ap is_some h))
+kept_none ((n, None) ∷ slots) (suc i) h = kept_none slots i h
+kept_none ((n, Some x) ∷ slots) (suc i) h = ap (λ ss. (n, Some x) ∷ ss) (kept_none slots i h)
+
+pub kept_more : (slots : List (ℕ × Option Entry)) (i : ℕ) (e : Entry) → entry_at i slots ≡ Some e → (n : ℕ) × (kept (i + 1) slots ≡ kept i slots ++ (n, Some e) ∷ [])
+kept_more slots i e h = let r = kept_some slots i e h in (r.0, ap (λ m. kept m slots) (add-one i) ∙ r.1)
+
+pub kept_same : (slots : List (ℕ × Option Entry)) (i : ℕ) → entry_at i slots ≡ None → kept (i + 1) slots ≡ kept i slots
+kept_same slots i h = ap (λ m. kept m slots) (add-one i) ∙ kept_none slots i h

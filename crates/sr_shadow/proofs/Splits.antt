@@ -17,6 +17,10 @@ same_key-true a b h = grind (arith, nat_tests)
 pub same_key-self : (a : KeyView) → same_key a a ≡ true
 same_key-self a = grind (arith, nat_tests)
 
+-- one entry where both are the one that was found
+pub some_same : (a b : Entry) → Some a ≡ Some b → a ≡ b
+some_same a b p = grind arith
+
 -- the entry of a key, with those before and after it
 pub record Split (key : KeyView) (es : List Entry) (e : Entry) : Type 0 where
   pub front : List Entry
@@ -31,8 +35,6 @@ pub split : (key : KeyView) (es : List Entry) (e : Entry) → DistinctKeys es �
 split key [] e d h = absurd (true≢false (sym (ap is_some h)))
 split key (x ∷ xs) e d h = by (is_of key x) refl (split key xs e d.1)
   where
-    some_same : (a b : Entry) → Some a ≡ Some b → a ≡ b
-    some_same a b p = grind arith
     by : (b : Bool) → is_of key x ≡ b → (entry_for key xs ≡ Some e → Split key xs e) → Split key (x ∷ xs) e
     by true t more =
         let k : key ≡ x.key = same_key-true key x.key t in

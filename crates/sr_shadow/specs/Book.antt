@@ -1,7 +1,7 @@
 -- The controller's book: the entries of the registered keys in the order of taking. A key is registered where an entry is its.
-use Rattle.std.specs.Prelude.{◌≡◌, ℕ, ◌+◌, ◌<◌, ◌≤◌, Bool, true, false, not, ◌&&◌, nat_le, List, [], ◌∷◌, ◌++◌, map, filter, find, count_by, sum_by, is_some, Option, Some, None, option_map, if◌then◌else◌}
+use Rattle.std.specs.Prelude.{◌≡◌, ℕ, ◌+◌, ◌^◌, ◌<◌, ◌≤◌, Bool, true, false, not, ◌&&◌, nat_le, List, [], ◌∷◌, ◌++◌, map, filter, find, count_by, sum_by, is_some, Option, Some, None, option_map, if◌then◌else◌}
 use Rattle.std.specs.List.{list_any}
-use Rattle.sr_base.specs.Key.{KeyView}
+use Rattle.sr_base.specs.Key.{KeyView, IsKey}
 use Rattle.sr_base.specs.Layout.{LayoutView}
 use Rattle.sr_base.specs.declared.place.Place.{Place}
 use Rattle.sr_base.specs.declared.shape.Shape.{Shape}
@@ -107,3 +107,21 @@ DistinctKeys (e ∷ entries) = (is_registered e.key entries ≡ false) × Distin
 -- no place is held twice, by two entries or by one
 abbrev pub HeldOnce : List Entry → Type 0
 HeldOnce entries = (place : Place) → sum_by (times_held place) entries ≤ 1
+
+-- the keys are in range
+abbrev pub AreKeys : List Entry → Type 0
+AreKeys [] = Unit {0}
+AreKeys (e ∷ entries) = IsKey e.key × AreKeys entries
+
+-- the numbers rise from a lowest one, and are below a highest
+abbrev pub TakenFrom : ℕ → List Entry → ℕ → Type 0
+TakenFrom low [] high = low ≤ high
+TakenFrom low (e ∷ entries) high = (low ≤ e.taken) × TakenFrom (e.taken + 1) entries high
+
+-- what holds of every book
+pub record IsBook (entries : List Entry) (taken : ℕ) : Type 0 where
+  pub distinct : DistinctKeys entries
+  pub once : HeldOnce entries
+  pub keys : AreKeys entries
+  pub rising : TakenFrom 0 entries taken
+  pub most : taken ≤ 2 ^ 56

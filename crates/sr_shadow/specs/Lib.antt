@@ -5,4 +5,5 @@ pub mod Holders
 pub mod Numbers
 pub mod Rivals
 pub mod Roll
+pub mod Shadow
 pub mod Taking

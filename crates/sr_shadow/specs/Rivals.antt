@@ -42,7 +42,7 @@ own_outside (Some e) = cond (is_outside e) 1 0
 
 -- there are few enough entries for 64 bits
 abbrev pub FewTallied : Shape → ℕ → (ℕ → Option Tally) → Type 0
-FewTallied shape way tallies = (es : List Entry) × Tallied shape way tallies es × (length es < 2 ^ 63)
+FewTallied shape way tallies = (es : List Entry) × Tallied shape way tallies es × (length es ≤ 2 ^ 56)
 
 -- the entry is one of those tallied
 abbrev pub HasTallied : Shape → ℕ → (ℕ → Option Tally) → Entry → Type 0

@@ -1,5 +1,5 @@
 -- The entries in the order of taking, as slots: each has the number of its entry, and the entry, or nothing once that is out.
-use Rattle.std.specs.Prelude.{◌≡◌, ℕ, ◌+◌, ◌≤◌, ◌<◌, min, Bool, true, false, not, List, [], ◌∷◌, ◌++◌, option_to_list, map, filter_map, is_some, Option, None, Some, slice_get, option_and_then, MatchOption}
+use Rattle.std.specs.Prelude.{◌≡◌, ℕ, ◌+◌, ◌≤◌, ◌<◌, min, Bool, true, false, not, List, [], ◌∷◌, ◌++◌, option_to_list, map, filter, filter_map, take, is_some, Option, None, Some, slice_get, option_and_then, MatchOption}
 use Rattle.sr_shadow.specs.Entry.{is_pending, is_placed}
 use Rattle.sr_shadow.specs.declared.entry.Entry.{Entry}
 use Rattle.sr_shadow.specs.declared.standing.Standing.{Standing}
@@ -21,6 +21,10 @@ entry_found (Some at) slots = entry_at at slots
 abbrev pub passes : (Entry → Bool) → Option Entry → Bool
 passes test None = false
 passes test (Some e) = test e
+
+-- of the first so many slots those with an entry
+abbrev pub kept : ℕ → List (ℕ × Option Entry) → List (ℕ × Option Entry)
+kept n slots = filter (λ s. is_some s.1) (take n slots)
 
 -- an entry has its slot's number
 abbrev pub HasNumber : ℕ → Option Entry → Type 0

@@ -1,6 +1,6 @@
 ghost use Rattle.std.specs.Prelude.{◌≡◌, ◌+◌, ◌-◌, ◌^◌, ◌<◌, ◌≤◌, List, [], ◌∷◌, ◌++◌, slice_index_or, slice_set, length, IfOk};
 ghost use Rattle.sr_shadow.specs.Book.{count_of};
-ghost use Rattle.sr_shadow.specs.Counts.{cell_of, Counted};
+ghost use Rattle.sr_shadow.specs.Counts.{cell_of, Counted, FewCounted, HasCounted};
 ghost use Rattle.sr_shadow.specs.declared.entry.Entry.{Entry as AnEntry};
 
 use crate::Entry;
@@ -43,9 +43,9 @@ impl Counts {
     }
 
     // One entry more.
-    #[tactic(auto, using(crate::proofs::Tables::counted_more))]
+    #[tactic(auto, using(crate::proofs::Tables::counted_more, crate::proofs::Tables::counted_few))]
     pub(crate) fn join(&mut self, entry: &Entry)
-        requires { slice_index_or self.old (cell_of entry.now.key.vip entry.now.version) 0 < 2 ^ 64 - 1 }
+        requires { FewCounted self.old }
         ensures { (es : List AnEntry) → Counted self.old es → Counted self.new (es ++ entry.now ∷ []) }
     {
         let at = cell(entry);
@@ -53,9 +53,9 @@ impl Counts {
     }
 
     // The entry's less.
-    #[tactic(auto, using(crate::proofs::Tables::counted_less))]
+    #[tactic(auto, using(crate::proofs::Tables::counted_less, crate::proofs::Tables::counted_one))]
     pub(crate) fn drop_out(&mut self, entry: &Entry)
-        requires { 0 < slice_index_or self.old (cell_of entry.now.key.vip entry.now.version) 0 }
+        requires { HasCounted self.old entry.now }
         ensures { (front back : List AnEntry) → Counted self.old (front ++ entry.now ∷ back) → Counted self.new (front ++ back) }
     {
         let at = cell(entry);

@@ -1,11 +1,12 @@
-ghost use Rattle.std.specs.Prelude.{◌≡◌, ◌<◌, List, [], length, cond, slice_index_or, None, IfOk, MatchOption};
+ghost use Rattle.std.specs.Prelude.{◌≡◌, ◌<◌, List, [], ◌∷◌, ◌++◌, length, cond, slice_index_or, None, IfOk, MatchOption};
 ghost use Rattle.sr_base.specs.WordName.{HasPlace, entries_of, entry_number};
 ghost use Rattle.sr_base.specs.declared.place.Place.{Place as APlace};
-ghost use Rattle.sr_shadow.specs.Book.{holder_of};
-ghost use Rattle.sr_shadow.specs.Entry.{same_place};
+ghost use Rattle.sr_shadow.specs.Book.{holder_of, HeldOnce};
+ghost use Rattle.sr_shadow.specs.Entry.{same_place, settled, left_other};
 ghost use Rattle.sr_shadow.specs.Holders.{HeldBy, name_of};
 ghost use Rattle.sr_shadow.specs.declared.entry.Entry.{Entry as AnEntry};
 
+use crate::Entry;
 use sr_base::{Key, Layout, Place, WordName, layout_ranges, words_stand_apart};
 use std::alloc::{AllocError, Global};
 
@@ -36,8 +37,40 @@ impl Holders {
         self.table[cell]
     }
 
+    // The entry moves to a place that nobody held.
+    pub(crate) fn settle(&mut self, layout: &Layout, entry: &Entry, place: Place)
+        requires { length self.old.table.items ≡ entries_of layout.now.shape }
+        ensures { (front back : List AnEntry) → HeldOnce (front ++ entry.now ∷ back) → entry.now.also ≡ None → holder_of place (front ++ entry.now ∷ back) ≡ None → HeldBy layout.now.shape self.old.table.items (front ++ entry.now ∷ back) → HeldBy layout.now.shape self.new.table.items (front ++ settled place entry.now ∷ back) }
+    {
+        self.put(layout, place, Some(entry.key));
+    }
+
+    // The entry gives up the place that it had before.
+    pub(crate) fn leave(&mut self, layout: &Layout, entry: &Entry)
+        requires { length self.old.table.items ≡ entries_of layout.now.shape }
+        ensures left { (front back : List AnEntry) → HeldOnce (front ++ entry.now ∷ back) → HeldBy layout.now.shape self.old.table.items (front ++ entry.now ∷ back) → HeldBy layout.now.shape self.new.table.items (front ++ left_other entry.now ∷ back) }
+        ensures size { length self.new.table.items ≡ length self.old.table.items }
+    {
+        match entry.also {
+            Some(place) => self.put(layout, place, None),
+            None => {}
+        }
+    }
+
+    // The entry goes, and holds no place any more.
+    pub(crate) fn free(&mut self, layout: &Layout, entry: &Entry)
+        requires { length self.old.table.items ≡ entries_of layout.now.shape }
+        ensures { (front back : List AnEntry) → HeldOnce (front ++ entry.now ∷ back) → HeldBy layout.now.shape self.old.table.items (front ++ entry.now ∷ back) → HeldBy layout.now.shape self.new.table.items (front ++ back) }
+    {
+        self.leave(layout, entry);
+        match entry.place {
+            Some(place) => self.put(layout, place, None),
+            None => {}
+        }
+    }
+
     // Somebody or nobody holds a place from now on, and all else stays.
-    pub(crate) fn put(&mut self, layout: &Layout, place: Place, holder: Option<Key>)
+    fn put(&mut self, layout: &Layout, place: Place, holder: Option<Key>)
         requires { length self.old.table.items ≡ entries_of layout.now.shape }
         ensures held { (old new : List AnEntry) → ((other : APlace) → holder_of other new ≡ cond (same_place other place) holder (holder_of other old)) → HeldBy layout.now.shape self.old.table.items old → HeldBy layout.now.shape self.new.table.items new }
         ensures size { length self.new.table.items ≡ length self.old.table.items }

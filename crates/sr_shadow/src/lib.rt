@@ -15,9 +15,11 @@ mod holders;
 mod numbers;
 mod rivals;
 mod roll;
+mod shadow;
 mod standing;
 mod tally;
 mod took;
 
 pub use entry::Entry;
+pub use shadow::Shadow;
 pub use took::Took;

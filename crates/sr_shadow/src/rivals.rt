@@ -1,5 +1,6 @@
 ghost use Rattle.std.specs.Prelude.{◌≡◌, ◌+◌, ◌-◌, ◌^◌, ◌<◌, ◌≤◌, ◌⊎◌, List, [], ◌∷◌, ◌++◌, ℕ, nat_eq, cond, OnOk};
 ghost use Rattle.indexmap.specs.IndexMap.{get, spare};
+ghost use Rattle.sr_base.specs.declared.shape.Shape.{Shape as AShape};
 ghost use Rattle.sr_shadow.specs.Entry.{is_outside};
 ghost use Rattle.sr_shadow.specs.Rivals.{class_of, tally_of, FewTallied, HasTallied, IsClassed, Tallied};
 ghost use Rattle.sr_shadow.specs.declared.entry.Entry.{Entry as AnEntry};
@@ -20,7 +21,7 @@ pub(crate) struct Rivals {
 impl Rivals {
     // Of no entry.
     pub(crate) fn new(alloc: Global) -> Rivals
-        ensures { get nat_eq result.map ≡ (λ class. None) }
+        ensures { (shape : AShape) (way : ℕ) → Tallied shape way (get nat_eq result.map) [] }
     {
         Rivals {
             map: IndexMap::new(alloc),

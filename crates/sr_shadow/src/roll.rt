@@ -1,7 +1,7 @@
 ghost use Rattle.std.specs.Prelude.{◌≡◌, ◌+◌, ◌^◌, ◌<◌, ◌≤◌, ◌&&◌, ◌∷◌, ◌++◌, ℕ, List, [], Option, Some, None, true, false, is_some, nat_le, nat_lt, find, filter, length, drop, slice_get, option_copied, IfOk, OnOk};
 ghost use Rattle.std.specs.List.Sorted.{IsPartitionPoint};
 ghost use Rattle.sr_shadow.specs.Entry.{is_pending, is_placed};
-ghost use Rattle.sr_shadow.specs.Roll.{entries_in, entry_at, HasEntry, HasNumber, Replaces, Rising, StandsFor};
+ghost use Rattle.sr_shadow.specs.Roll.{entries_in, entry_at, HasEntry, HasNumber, Replaces, kept, Rising, StandsFor};
 ghost use Rattle.sr_shadow.specs.declared.entry.Entry.{Entry as AnEntry};
 
 use crate::Entry;
@@ -96,12 +96,12 @@ impl Roll {
         ensures entries { self.new.entries ≡ self.old.entries ++ entry ∷ [] }
         ensures taken { self.new.taken ≡ self.old.taken + 1 }
     {
-        match self.slots.insert(self.taken, Some(entry)) {
-            Ok(_) => {}
+        let slot = Some(entry);
+        self.standing.push(&slot);
+        match self.slots.insert(self.taken, slot) {
+            Ok(_) => self.taken += 1,
             Err(_) => unreachable!(),
         }
-        self.standing.push(&Some(entry));
-        self.taken += 1;
     }
 
     // The entry of this number.
@@ -122,11 +122,12 @@ impl Roll {
         ensures taken { self.new.taken ≡ self.old.taken }
         ensures room { self.old.room ≤ self.new.room }
     {
-        if let Some(at) = self.slots.get_index_of(&number) {
-            self.standing.set(at, &slot);
-        }
-        if let Some(held) = self.slots.get_mut(&number) {
-            *held = slot;
+        match self.slots.get_index_of(&number) {
+            Some(at) => {
+                self.standing.set(at, &slot);
+                self.slots[at] = slot;
+            }
+            None => unreachable!(),
         }
     }
 
@@ -188,11 +189,26 @@ fn standing_of(alloc: Global, slots: &Slots) -> Result<Standing, AllocError>
 {
     let mut standing = Standing::new(alloc);
     for at in 0..slots.len() {
-        let entry = entry_at(slots, at);
-        if let Some(entry) = entry {
-            standing.reserve(alloc)?;
-            standing.push(&Some(*entry));
-        }
+        keep(alloc, slots, at, &mut standing)?;
     }
     Ok(standing)
+}
+
+// One slot more, where it has an entry.
+fn keep(
+    alloc: Global,
+    slots: &Slots,
+    at: usize,
+    standing: &mut Standing,
+) -> Result<(), AllocError>
+    ensures { OnOk result (StandsFor standing.old (kept at slots.now.entries) → StandsFor standing.new (kept (at + 1) slots.now.entries)) }
+{
+    match entry_at(slots, at) {
+        Some(entry) => {
+            standing.reserve(alloc)?;
+            standing.push(&Some(*entry));
+            Ok(())
+        }
+        None => Ok(()),
+    }
 }
