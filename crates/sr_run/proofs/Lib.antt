@@ -4,6 +4,7 @@ mod CommandServers
 mod Digits
 mod FrameVips
 mod LawfulLines
+mod Parts
 mod PrintedLines
 mod Running
 mod Writing
