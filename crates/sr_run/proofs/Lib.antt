@@ -3,7 +3,7 @@ mod CaptureRecords
 mod CommandServers
 mod Digits
 mod FrameVips
-mod KeptServers
+mod LawfulLines
 mod Parts
 mod PrintedLines
 mod Running
