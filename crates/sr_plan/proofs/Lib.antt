@@ -1,0 +1,4 @@
+mod Clearing
+mod Holding
+mod Moving
+mod Usable
