@@ -21,5 +21,5 @@ mod tally;
 mod took;
 
 pub use entry::Entry;
-pub use shadow::Shadow;
+pub use shadow::{Shadow, book_rules};
 pub use took::Took;
