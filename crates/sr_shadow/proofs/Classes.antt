@@ -34,8 +34,8 @@ digest_below x bits most = omega (arith, mod_below x (2 ^ bits) (pow_pos bits), 
 pub same_class : (shape : Shape) (way : ℕ) (a b : KeyView) → IsClassed shape → eqb (class_of shape way a) (class_of shape way b) ≡ clashes shape way a b
 same_class shape way a b s =
     three_parts a.vip (bucket_of way a shape.buckets) (digest_of way a shape.digest_bits) b.vip (bucket_of way b shape.buckets) (digest_of way b shape.digest_bits)
-        (bucket_below (hash_of way a) shape.buckets s.0 s.1) (bucket_below (hash_of way b) shape.buckets s.0 s.1)
-        (digest_below (hash_of (way + 2) a) shape.digest_bits s.2) (digest_below (hash_of (way + 2) b) shape.digest_bits s.2)
+    (bucket_below (hash_of way a) shape.buckets s.0 s.1) (bucket_below (hash_of way b) shape.buckets s.0 s.1)
+    (digest_below (hash_of (way + 2) a) shape.digest_bits s.2) (digest_below (hash_of (way + 2) b) shape.digest_bits s.2)
 
 -- a class whose numbers change by as much as the entries do
 pub tallied_change : (shape : Shape) (way : ℕ) (own : KeyView) (class : ℕ) (old new : ℕ → Option Tally) (r : Tally) (before after : List Entry) (a b x y : ℕ)
@@ -53,6 +53,7 @@ tallied_change shape way own class old new r before after a b x y fine is step s
         by : (c : Bool) → clashes shape way key own ≡ c → (cond (eqb class (class_of shape way key)) r (tally_of old (class_of shape way key))).members ≡ count_by (is_member shape way key) after
         by true t = grind (arith, nat_tests, same_class shape way key own fine, t, is, some, members key, h.members key)
         by false t = grind (arith, nat_tests, same_class shape way key own fine, t, is, members key, h.members key)
+
     other : (key : KeyView) → (tally_of new (class_of shape way key)).outside ≡ count_by (is_outsider shape way key) after
     other key = ap (λ t. t.outside) (step (class_of shape way key)) ∙ by (clashes shape way key own) refl
       where
@@ -80,8 +81,18 @@ clashing_split : (shape : Shape) (way : ℕ) (key : KeyView) (front back : List 
 clashing_split shape way key front back e own before after =
     let mine : is_of key e ≡ true = subst (λ y. same_key key y ≡ true) (sym own) (same_key-self key) in
     let self : clashes shape way key e.key ≡ true = subst (λ y. clashes shape way key y ≡ true) (sym own) (clashes_self shape way key) in
-    grind (arith, nat_tests, mine, self, list_any-append (is_rival shape way key) front (e ∷ back), count_split (is_outsider shape way key) front back e,
-        others_rival shape way key front before, any_counted (is_outsider shape way key) front, others_rival shape way key back after, any_counted (is_outsider shape way key) back)
+    grind (
+      arith,
+      nat_tests,
+      mine,
+      self,
+      list_any-append (is_rival shape way key) front (e ∷ back),
+      count_split (is_outsider shape way key) front back e,
+      others_rival shape way key front before,
+      any_counted (is_outsider shape way key) front,
+      others_rival shape way key back after,
+      any_counted (is_outsider shape way key) back,
+    )
 
 -- a key has a rival where there are more outsiders in its class than itself
 pub clashing_counted : (shape : Shape) (way : ℕ) (key : KeyView) (es : List Entry) → DistinctKeys es
@@ -101,7 +112,7 @@ pub tallied_more : (shape : Shape) (way : ℕ) (class : ℕ) (old new : ℕ → 
     → Tallied shape way old es → Tallied shape way new (es ++ e ∷ [])
 tallied_more shape way class old new r es e fine is step some others h =
     tallied_change shape way e.key class old new r es (es ++ e ∷ []) 0 1 0 (cond (is_outside e) 1 0) fine is step (omega (arith, some)) (omega (arith, others))
-        (λ key. grind (arith, nat_tests, count_split (is_member shape way key) es [] e)) (λ key. grind (arith, nat_tests, count_split (is_outsider shape way key) es [] e)) h
+    (λ key. grind (arith, nat_tests, count_split (is_member shape way key) es [] e)) (λ key. grind (arith, nat_tests, count_split (is_outsider shape way key) es [] e)) h
 
 -- one less
 pub tallied_less : (shape : Shape) (way : ℕ) (class : ℕ) (old new : ℕ → Option Tally) (r : Tally) (front back : List Entry) (e : Entry)
@@ -110,8 +121,8 @@ pub tallied_less : (shape : Shape) (way : ℕ) (class : ℕ) (old new : ℕ → 
     → Tallied shape way old (front ++ e ∷ back) → Tallied shape way new (front ++ back)
 tallied_less shape way class old new r front back e fine is step some others h =
     tallied_change shape way e.key class old new r (front ++ e ∷ back) (front ++ back) 1 0 (cond (is_outside e) 1 0) 0 fine is step (omega (arith, some)) (omega (arith, others))
-        (λ key. grind (arith, nat_tests, count_split (is_member shape way key) front back e, count_joined (is_member shape way key) front back))
-        (λ key. grind (arith, nat_tests, count_split (is_outsider shape way key) front back e, count_joined (is_outsider shape way key) front back)) h
+    (λ key. grind (arith, nat_tests, count_split (is_member shape way key) front back e, count_joined (is_member shape way key) front back))
+    (λ key. grind (arith, nat_tests, count_split (is_outsider shape way key) front back e, count_joined (is_outsider shape way key) front back)) h
 
 -- one in the place of another of the same key
 pub tallied_swapped : (shape : Shape) (way : ℕ) (class : ℕ) (old new : ℕ → Option Tally) (r : Tally) (front back : List Entry) (e f : Entry)
@@ -120,22 +131,24 @@ pub tallied_swapped : (shape : Shape) (way : ℕ) (class : ℕ) (old new : ℕ �
     → Tallied shape way old (front ++ e ∷ back) → Tallied shape way new (front ++ f ∷ back)
 tallied_swapped shape way class old new r front back e f fine is same step some others h =
     tallied_change shape way e.key class old new r (front ++ e ∷ back) (front ++ f ∷ back) 0 0 (cond (is_outside e) 1 0) (cond (is_outside f) 1 0) fine is step (omega (arith, some)) others
-        (λ key. grind (arith, nat_tests, same, count_split (is_member shape way key) front back e, count_split (is_member shape way key) front back f))
-        (λ key. grind (arith, nat_tests, same, count_split (is_outsider shape way key) front back e, count_split (is_outsider shape way key) front back f)) h
+    (λ key. grind (arith, nat_tests, same, count_split (is_member shape way key) front back e, count_split (is_member shape way key) front back f))
+    (λ key. grind (arith, nat_tests, same, count_split (is_outsider shape way key) front back e, count_split (is_outsider shape way key) front back f)) h
 
 -- what an entry adds to its class
 pub tallied_one : (shape : Shape) (way : ℕ) (tallies : ℕ → Option Tally) (e : Entry) → HasTallied shape way tallies e
     → (1 ≤ (tally_of tallies (class_of shape way e.key)).members) × (cond (is_outside e) 1 0 ≤ (tally_of tallies (class_of shape way e.key)).outside)
-tallied_one shape way tallies e h =
-    (grind (arith, nat_tests, h.2.members e.key, count_split (is_member shape way e.key) h.0 h.1 e, clashes_self shape way e.key),
-     grind (arith, nat_tests, h.2.outside e.key, count_split (is_outsider shape way e.key) h.0 h.1 e, clashes_self shape way e.key))
+tallied_one shape way tallies e h = (
+  grind (arith, nat_tests, h.2.members e.key, count_split (is_member shape way e.key) h.0 h.1 e, clashes_self shape way e.key),
+  grind (arith, nat_tests, h.2.outside e.key, count_split (is_outsider shape way e.key) h.0 h.1 e, clashes_self shape way e.key),
+)
 
 -- and the numbers are far from their end
 pub tallied_few : (shape : Shape) (way : ℕ) (tallies : ℕ → Option Tally) (key : KeyView) → FewTallied shape way tallies
     → ((tally_of tallies (class_of shape way key)).members < 2 ^ 63) × ((tally_of tallies (class_of shape way key)).outside < 2 ^ 63)
-tallied_few shape way tallies key h =
-    (omega (arith, h.1.members key, count_by-le-length (is_member shape way key) h.0, h.2),
-     omega (arith, h.1.outside key, count_by-le-length (is_outsider shape way key) h.0, h.2))
+tallied_few shape way tallies key h = (
+  omega (arith, h.1.members key, count_by-le-length (is_member shape way key) h.0, h.2),
+  omega (arith, h.1.outside key, count_by-le-length (is_outsider shape way key) h.0, h.2),
+)
 
 -- a tally that is put is found
 pub tally_put : (old new : ℕ → Option Tally) (class : ℕ) (r : Tally) → ((q : ℕ) → new q ≡ cond (eqb class q) (Some r) (old q))
@@ -145,3 +158,24 @@ tally_put old new class r step q = ap (λ x. unwrap_or x no_tally) (step q) ∙ 
     by : (b : Bool) → unwrap_or (cond b (Some r) (old q)) no_tally ≡ cond b r (tally_of old q)
     by true = refl
     by false = refl
+
+-- tallies know of an entry its key and whether it is outside the full-key table
+pub tallied_same : (shape : Shape) (way : ℕ) (tallies : ℕ → Option Tally) (front back : List Entry) (e f : Entry) → f.key ≡ e.key → is_outside f ≡ is_outside e
+    → Tallied shape way tallies (front ++ e ∷ back) → Tallied shape way tallies (front ++ f ∷ back)
+tallied_same shape way tallies front back e f own out h = record {
+  members = λ key. h.members key ∙ same (is_member shape way key) (ap (clashes shape way key) own);
+  outside = λ key. h.outside key ∙ same (is_outsider shape way key) (rw (out, own) refl);
+}
+  where
+    same : (test : Entry → Bool) → test f ≡ test e → count_by test (front ++ e ∷ back) ≡ count_by test (front ++ f ∷ back)
+    same test eq = count_split test front back e ∙ ap (λ b. count_by test front + (cond b 1 0 + count_by test back)) (sym eq) ∙ sym (count_split test front back f)
+
+-- two that are both outside, or both not
+pub same_outside : (e f : Entry) → cond {A = ℕ} (is_outside e) 1 0 ≡ cond (is_outside f) 1 0 → is_outside f ≡ is_outside e
+same_outside e f h = by (is_outside e) (is_outside f) h
+  where
+    by : (a b : Bool) → cond {A = ℕ} a 1 0 ≡ cond b 1 0 → b ≡ a
+    by true true p = refl
+    by false false p = refl
+    by true false p = absurd (omega (arith, p))
+    by false true p = absurd (omega (arith, p))

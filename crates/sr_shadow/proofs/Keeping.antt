@@ -17,6 +17,7 @@ use Rattle.sr_shadow.specs.Shadow.{IsShadow, HasRoom}
 use Rattle.sr_shadow.specs.declared.entry.Entry.{Entry}
 use Rattle.sr_shadow.specs.declared.tally.Tally.{Tally}
 use Rattle.sr_shadow.proofs.Books.{distinct_more, distinct_swap, distinct_less, keys_more, keys_swap, keys_less, taken_more, taken_swap, taken_less, few_taken}
+use Rattle.sr_shadow.proofs.Classes.{tallied_same}
 use Rattle.sr_shadow.proofs.Lookups.{numbered_same}
 use Rattle.sr_shadow.proofs.Places.{holder_more, holder_same, held_alike, once_less, once_more, once_settled, once_left, once_without}
 use Rattle.sr_shadow.proofs.Splits.{Split, split, changed_split, count_split}
@@ -26,17 +27,6 @@ use Rattle.sr_shadow.proofs.Tables.{counted_same}
 pub few_entries : (es : List Entry) (taken : ℕ) → IsBook es taken → length es ≤ 2 ^ 56
 few_entries es taken b = omega (arith, few_taken 0 taken es b.rising, b.most)
 
--- tallies know of an entry its key and whether it is outside the full-key table
-pub tallied_same : (shape : Shape) (way : ℕ) (tallies : ℕ → Option Tally) (front back : List Entry) (e f : Entry) → f.key ≡ e.key → is_outside f ≡ is_outside e
-    → Tallied shape way tallies (front ++ e ∷ back) → Tallied shape way tallies (front ++ f ∷ back)
-tallied_same shape way tallies front back e f own out h = record {
-        members = λ key. h.members key ∙ same (is_member shape way key) (ap (clashes shape way key) own);
-        outside = λ key. h.outside key ∙ same (is_outsider shape way key) (rw (out, own) refl)
-    }
-  where
-    same : (test : Entry → Bool) → test f ≡ test e → count_by test (front ++ e ∷ back) ≡ count_by test (front ++ f ∷ back)
-    same test eq = count_split test front back e ∙ ap (λ b. count_by test front + (cond b 1 0 + count_by test back)) (sym eq) ∙ sym (count_split test front back f)
-
 -- one entry more
 pub shadow_more : (l : LayoutView) (es new : List Entry) (taken next : ℕ) (numbers numbers2 : ℕ → Option ℕ) (counts counts2 : List ℕ) (one one2 two two2 : ℕ → Option Tally) (table : List (Option KeyView)) (e : Entry)
     → new ≡ es ++ e ∷ [] → next ≡ taken + 1 → IsKey e.key → is_registered e.key es ≡ false → e.taken ≡ taken → e.place ≡ None → e.also ≡ None → taken < 2 ^ 56
@@ -44,11 +34,18 @@ pub shadow_more : (l : LayoutView) (es new : List Entry) (taken next : ℕ) (num
     → IsShadow l es taken numbers counts one two table → IsShadow l new next numbers2 counts2 one2 two2 table
 shadow_more l es new taken next numbers numbers2 counts counts2 one one2 two two2 table e is after key none told at also most n c f s h =
     subst (λ ys. IsShadow l ys next numbers2 counts2 one2 two2 table) (sym is) (subst (λ t. IsShadow l (es ++ e ∷ []) t numbers2 counts2 one2 two2 table) (sym after) (record {
-        book = record {
-            distinct = distinct_more es e none h.book.distinct; once = once_more es e at also h.book.once; keys = keys_more es e key h.book.keys;
-            rising = taken_more 0 taken es e told h.book.rising; most = omega (arith, most)
-        };
-        numbered = n; counted = c; first = f; second = s; held = held_alike l.shape table es (es ++ e ∷ []) (λ place. holder_more place es e at also) h.held
+      book = record {
+        distinct = distinct_more es e none h.book.distinct;
+        once = once_more es e at also h.book.once;
+        keys = keys_more es e key h.book.keys;
+        rising = taken_more 0 taken es e told h.book.rising;
+        most = omega (arith, most);
+      };
+      numbered = n;
+      counted = c;
+      first = f;
+      second = s;
+      held = held_alike l.shape table es (es ++ e ∷ []) (λ place. holder_more place es e at also) h.held;
     }))
 
 -- one that the indexes can't tell from the other
@@ -58,13 +55,18 @@ pub shadow_same : (l : LayoutView) (front back : List Entry) (e f : Entry) (take
 shadow_same l front back e f taken numbers counts one two table own version at also told h =
     let out : is_outside f ≡ is_outside e = rw at refl in
     record {
-        book = record {
-            distinct = distinct_swap front back e f own h.book.distinct; once = once_less front back e f h.book.once (λ place. rw (at, also) (omega arith)); keys = keys_swap front back e f own h.book.keys;
-            rising = taken_swap 0 taken front back e f told h.book.rising; most = h.book.most
-        };
-        numbered = numbered_same numbers front back e f own told h.numbered; counted = counted_same counts front back e f own version h.counted;
-        first = tallied_same l.shape 1 one front back e f own out h.first; second = tallied_same l.shape 2 two front back e f own out h.second;
-        held = held_alike l.shape table (front ++ e ∷ back) (front ++ f ∷ back) (λ place. holder_same place front back e f own at also) h.held
+      book = record {
+        distinct = distinct_swap front back e f own h.book.distinct;
+        once = once_less front back e f h.book.once (λ place. rw (at, also) (omega arith));
+        keys = keys_swap front back e f own h.book.keys;
+        rising = taken_swap 0 taken front back e f told h.book.rising;
+        most = h.book.most;
+      };
+      numbered = numbered_same numbers front back e f own told h.numbered;
+      counted = counted_same counts front back e f own version h.counted;
+      first = tallied_same l.shape 1 one front back e f own out h.first;
+      second = tallied_same l.shape 2 two front back e f own out h.second;
+      held = held_alike l.shape table (front ++ e ∷ back) (front ++ f ∷ back) (λ place. holder_same place front back e f own at also) h.held;
     }
 
 -- one that has moved
@@ -73,38 +75,57 @@ pub shadow_settled : (l : LayoutView) (front back : List Entry) (e : Entry) (pla
     → HeldBy l.shape table2 (front ++ settled place e ∷ back)
     → IsShadow l (front ++ e ∷ back) taken numbers counts one two table → IsShadow l (front ++ settled place e ∷ back) taken numbers counts one2 two2 table2
 shadow_settled l front back e place taken numbers counts one one2 two two2 table table2 alone free f s held h = record {
-        book = record {
-            distinct = distinct_swap front back e (settled place e) refl h.book.distinct; once = once_settled place front back e h.book.once alone free; keys = keys_swap front back e (settled place e) refl h.book.keys;
-            rising = taken_swap 0 taken front back e (settled place e) refl h.book.rising; most = h.book.most
-        };
-        numbered = numbered_same numbers front back e (settled place e) refl refl h.numbered; counted = counted_same counts front back e (settled place e) refl refl h.counted;
-        first = f; second = s; held = held
-    }
+  book = record {
+    distinct = distinct_swap front back e (settled place e) refl h.book.distinct;
+    once = once_settled place front back e h.book.once alone free;
+    keys = keys_swap front back e (settled place e) refl h.book.keys;
+    rising = taken_swap 0 taken front back e (settled place e) refl h.book.rising;
+    most = h.book.most;
+  };
+  numbered = numbered_same numbers front back e (settled place e) refl refl h.numbered;
+  counted = counted_same counts front back e (settled place e) refl refl h.counted;
+  first = f;
+  second = s;
+  held = held;
+}
 
 -- one that has left its other place
 pub shadow_left : (l : LayoutView) (front back : List Entry) (e : Entry) (taken : ℕ) (numbers : ℕ → Option ℕ) (counts : List ℕ) (one two : ℕ → Option Tally) (table table2 : List (Option KeyView))
     → HeldBy l.shape table2 (front ++ left_other e ∷ back)
     → IsShadow l (front ++ e ∷ back) taken numbers counts one two table → IsShadow l (front ++ left_other e ∷ back) taken numbers counts one two table2
 shadow_left l front back e taken numbers counts one two table table2 held h = record {
-        book = record {
-            distinct = distinct_swap front back e (left_other e) refl h.book.distinct; once = once_left front back e h.book.once; keys = keys_swap front back e (left_other e) refl h.book.keys;
-            rising = taken_swap 0 taken front back e (left_other e) refl h.book.rising; most = h.book.most
-        };
-        numbered = numbered_same numbers front back e (left_other e) refl refl h.numbered; counted = counted_same counts front back e (left_other e) refl refl h.counted;
-        first = tallied_same l.shape 1 one front back e (left_other e) refl refl h.first; second = tallied_same l.shape 2 two front back e (left_other e) refl refl h.second; held = held
-    }
+  book = record {
+    distinct = distinct_swap front back e (left_other e) refl h.book.distinct;
+    once = once_left front back e h.book.once;
+    keys = keys_swap front back e (left_other e) refl h.book.keys;
+    rising = taken_swap 0 taken front back e (left_other e) refl h.book.rising;
+    most = h.book.most;
+  };
+  numbered = numbered_same numbers front back e (left_other e) refl refl h.numbered;
+  counted = counted_same counts front back e (left_other e) refl refl h.counted;
+  first = tallied_same l.shape 1 one front back e (left_other e) refl refl h.first;
+  second = tallied_same l.shape 2 two front back e (left_other e) refl refl h.second;
+  held = held;
+}
 
 -- one less
 pub shadow_less : (l : LayoutView) (front back : List Entry) (e : Entry) (taken : ℕ) (numbers numbers2 : ℕ → Option ℕ) (counts counts2 : List ℕ) (one one2 two two2 : ℕ → Option Tally) (table table2 : List (Option KeyView))
     → Numbered numbers2 (front ++ back) → Counted counts2 (front ++ back) → Tallied l.shape 1 one2 (front ++ back) → Tallied l.shape 2 two2 (front ++ back) → HeldBy l.shape table2 (front ++ back)
     → IsShadow l (front ++ e ∷ back) taken numbers counts one two table → IsShadow l (front ++ back) taken numbers2 counts2 one2 two2 table2
 shadow_less l front back e taken numbers numbers2 counts counts2 one one2 two two2 table table2 n c f s held h = record {
-        book = record {
-            distinct = distinct_less front back e h.book.distinct; once = once_without front back e h.book.once; keys = keys_less front back e h.book.keys;
-            rising = taken_less 0 taken front back e h.book.rising; most = h.book.most
-        };
-        numbered = n; counted = c; first = f; second = s; held = held
-    }
+  book = record {
+    distinct = distinct_less front back e h.book.distinct;
+    once = once_without front back e h.book.once;
+    keys = keys_less front back e h.book.keys;
+    rising = taken_less 0 taken front back e h.book.rising;
+    most = h.book.most;
+  };
+  numbered = n;
+  counted = c;
+  first = f;
+  second = s;
+  held = held;
+}
 
 -- a place looked for entry by entry
 pub scan_found : (place : Place) (es : List Entry) (i : ℕ) (key : KeyView) → holder_of place (option_to_list (slice_get es i)) ≡ Some key → holder_of place (drop i es) ≡ Some key

@@ -27,6 +27,7 @@ numbered_more old new own code number es e coded ranges same told none step h ke
     found : (r : Option Entry) → option_or r None ≡ r
     found None = refl
     found (Some x) = refl
+
     by : (b : Bool) → same_key own key ≡ b → cond (eqb (packed own) (packed key)) (Some number) (old (packed key)) ≡ option_map (λ x. x.taken) (entry_for key (es ++ e ∷ []))
     by true t =
         let k : own ≡ key = same_key-true own key t in
@@ -59,6 +60,7 @@ numbered_same numbers front back e f same told h key is = h key is ∙ by (entry
   where
     mine : is_of key f ≡ is_of key e
     mine = ap (same_key key) same
+
     by : (r : Option Entry) → entry_for key front ≡ r → option_map (λ x. x.taken) (entry_for key (front ++ e ∷ back)) ≡ option_map (λ x. x.taken) (entry_for key (front ++ f ∷ back))
     by None r = grind (arith, find-append (is_of key) front (f ∷ back), find-append (is_of key) front (e ∷ back), mine, told, r)
     by (Some x) r = grind (arith, find-append (is_of key) front (f ∷ back), find-append (is_of key) front (e ∷ back), mine, told, r)

@@ -145,6 +145,7 @@ holder_same place front back e f key at also = by (find (holds place) front) ref
   where
     mine : holds place f ≡ holds place e
     mine = rw (at, also) refl
+
     by : (r : Option Entry) → find (holds place) front ≡ r → holder_of place (front ++ f ∷ back) ≡ holder_of place (front ++ e ∷ back)
     by None r = grind (arith, find-append (holds place) front (f ∷ back), find-append (holds place) front (e ∷ back), mine, key, r)
     by (Some x) r = grind (arith, find-append (holds place) front (f ∷ back), find-append (holds place) front (e ∷ back), mine, key, r)

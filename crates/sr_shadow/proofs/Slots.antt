@@ -43,7 +43,7 @@ next_entry test zero ((m, Some e) ∷ slots) = by (test e) refl (next_entry test
     by true t rest = subst (λ b. cond b (Some e) (find test (entries_in slots)) ≡ entry_found (next_set zero (b ∷ map (λ s. passes test s.1) slots)) ((m, Some e) ∷ slots)) (sym t) refl
     by false t rest =
         subst (λ b. cond b (Some e) (find test (entries_in slots)) ≡ entry_found (next_set zero (b ∷ map (λ s. passes test s.1) slots)) ((m, Some e) ∷ slots)) (sym t)
-            (rest ∙ sym (one_further (next_set zero (map (λ s. passes test s.1) slots)) (m, Some e) slots))
+        (rest ∙ sym (one_further (next_set zero (map (λ s. passes test s.1) slots)) (m, Some e) slots))
 
 -- as many are in as marks are set
 pub count_entries : (slots : List (ℕ × Option Entry)) → count_set (map (λ s. is_some s.1) slots) ≡ length (entries_in slots)
@@ -99,23 +99,44 @@ around low high ((n, None) ∷ slots) front back e h is =
     let rest = around (n + 1) high slots front back e h.2 is in
     let apart : eqb e.taken n ≡ false = grind (arith, nat_tests, rest.least) in
     record {
-        before = (n, None) ∷ rest.before; after = rest.after; is = ap (λ ss. (n, None) ∷ ss) rest.is; front_is = rest.front_is; back_is = rest.back_is;
-        least = omega (arith, h.0, rest.least); at = grind (arith, apart, rest.at); found = grind (arith, apart, rest.found);
-        put = λ v. grind (arith, apart, rest.put v); rising = λ v hv. (h.0, tt, rest.rising v hv)
+      before = (n, None) ∷ rest.before;
+      after = rest.after;
+      is = ap (λ ss. (n, None) ∷ ss) rest.is;
+      front_is = rest.front_is;
+      back_is = rest.back_is;
+      least = omega (arith, h.0, rest.least);
+      at = grind (arith, apart, rest.at);
+      found = grind (arith, apart, rest.found);
+      put = λ v. grind (arith, apart, rest.put v);
+      rising = λ v hv. (h.0, tt, rest.rising v hv);
     }
 around low high ((n, Some x) ∷ slots) [] back e h is =
     subst (λ y. Around low high ((n, Some x) ∷ slots) [] back y) (ap (first_or x) is) (record {
-        before = []; after = slots; is = ap (λ k. (k, Some x) ∷ slots) (sym h.1); front_is = refl; back_is = ap (drop 1) is;
-        least = omega (arith, h.0, h.1); at = grind (arith, nat_tests, h.1); found = grind (arith, nat_tests, h.1);
-        put = λ v. grind (arith, nat_tests, h.1); rising = λ v hv. (omega (arith, h.0, h.1), hv, subst (λ k. Rising (k + 1) slots high) (sym h.1) h.2)
+      before = [];
+      after = slots;
+      is = ap (λ k. (k, Some x) ∷ slots) (sym h.1);
+      front_is = refl;
+      back_is = ap (drop 1) is;
+      least = omega (arith, h.0, h.1);
+      at = grind (arith, nat_tests, h.1);
+      found = grind (arith, nat_tests, h.1);
+      put = λ v. grind (arith, nat_tests, h.1);
+      rising = λ v hv. (omega (arith, h.0, h.1), hv, subst (λ k. Rising (k + 1) slots high) (sym h.1) h.2);
     })
 around low high ((n, Some x) ∷ slots) (f ∷ front) back e h is =
     let rest = around (n + 1) high slots front back e h.2 (ap (drop 1) is) in
     let apart : eqb e.taken n ≡ false = grind (arith, nat_tests, rest.least) in
     record {
-        before = (n, Some x) ∷ rest.before; after = rest.after; is = ap (λ ss. (n, Some x) ∷ ss) rest.is; front_is = grind (arith, ap (first_or x) is, rest.front_is); back_is = rest.back_is;
-        least = omega (arith, h.0, rest.least); at = grind (arith, apart, rest.at); found = grind (arith, apart, rest.found);
-        put = λ v. grind (arith, apart, rest.put v); rising = λ v hv. (h.0, h.1, rest.rising v hv)
+      before = (n, Some x) ∷ rest.before;
+      after = rest.after;
+      is = ap (λ ss. (n, Some x) ∷ ss) rest.is;
+      front_is = grind (arith, ap (first_or x) is, rest.front_is);
+      back_is = rest.back_is;
+      least = omega (arith, h.0, rest.least);
+      at = grind (arith, apart, rest.at);
+      found = grind (arith, apart, rest.found);
+      put = λ v. grind (arith, apart, rest.put v);
+      rising = λ v hv. (h.0, h.1, rest.rising v hv);
     }
 
 -- writing to a slot keeps the marks in step
@@ -129,18 +150,18 @@ pub stands_more : (ins waiting standing : List Bool) (slots : List (ℕ × Optio
     → Stands (ins ++ is_some s.1 ∷ []) (waiting ++ passes is_pending s.1 ∷ []) (standing ++ passes is_placed s.1 ∷ []) (slots ++ s ∷ [])
 stands_more ins waiting standing slots s h =
     record {
-        live = ap (λ ms. ms ++ is_some s.1 ∷ []) h.live ∙ sym (map-append (λ x. is_some x.1) slots (s ∷ []));
-        pending = ap (λ ms. ms ++ passes is_pending s.1 ∷ []) h.pending ∙ sym (map-append (λ x. passes is_pending x.1) slots (s ∷ []));
-        placed = ap (λ ms. ms ++ passes is_placed s.1 ∷ []) h.placed ∙ sym (map-append (λ x. passes is_placed x.1) slots (s ∷ []))
+      live = ap (λ ms. ms ++ is_some s.1 ∷ []) h.live ∙ sym (map-append (λ x. is_some x.1) slots (s ∷ []));
+      pending = ap (λ ms. ms ++ passes is_pending s.1 ∷ []) h.pending ∙ sym (map-append (λ x. passes is_pending x.1) slots (s ∷ []));
+      placed = ap (λ ms. ms ++ passes is_placed s.1 ∷ []) h.placed ∙ sym (map-append (λ x. passes is_placed x.1) slots (s ∷ []));
     }
 
 pub stands_set : (ins waiting standing : List Bool) (before after : List (ℕ × Option Entry)) (s t : ℕ × Option Entry) (at : ℕ) → at ≡ length before → Stands ins waiting standing (before ++ s ∷ after)
     → Stands (set ins at (is_some t.1)) (set waiting at (passes is_pending t.1)) (set standing at (passes is_placed t.1)) (before ++ t ∷ after)
 stands_set ins waiting standing before after s t at is h =
     record {
-        live = rw (is, h.live) (marks_set (λ x. is_some x.1) before after s t);
-        pending = rw (is, h.pending) (marks_set (λ x. passes is_pending x.1) before after s t);
-        placed = rw (is, h.placed) (marks_set (λ x. passes is_placed x.1) before after s t)
+      live = rw (is, h.live) (marks_set (λ x. is_some x.1) before after s t);
+      pending = rw (is, h.pending) (marks_set (λ x. passes is_pending x.1) before after s t);
+      placed = rw (is, h.placed) (marks_set (λ x. passes is_placed x.1) before after s t);
     }
 
 -- the lowest numbers
@@ -224,11 +245,15 @@ written slots number at high v front back e h is told numbered found =
     let here : at ≡ length a.before = same ∙ subst (λ n. position_or_len (eqb n) (keys_of slots) ≡ length a.before) told a.at in
     let left : set_value_at slots at v ≡ a.before ++ (e.taken, v) ∷ a.after = ap (λ ss. set_value_at ss at v) a.is ∙ ap (λ i. set_value_at (a.before ++ (e.taken, Some e) ∷ a.after) i v) here ∙ written_at a.before a.after (e.taken, Some e) v in
     record {
-        rising = subst (λ ss. Rising 0 ss high) (sym left) (a.rising v (subst (λ n. HasNumber n v) (sym told) numbered));
-        entries = ap entries_in left ∙ entries_joined a.before a.after e.taken v ∙ ap (λ f. f ++ (option_to_list v ++ entries_in a.after)) a.front_is ∙ ap (λ b. front ++ (option_to_list v ++ b)) a.back_is;
-        inside = subst (λ ss. at < length ss) (sym a.is) (rw here (grind (arith, common_steps)));
-        before = a.before; after = a.after; own = (e.taken, Some e); at_is = here; slots_is = a.is;
-        new_is = left ∙ ap (λ n. a.before ++ (n, v) ∷ a.after) told
+      rising = subst (λ ss. Rising 0 ss high) (sym left) (a.rising v (subst (λ n. HasNumber n v) (sym told) numbered));
+      entries = ap entries_in left ∙ entries_joined a.before a.after e.taken v ∙ ap (λ f. f ++ (option_to_list v ++ entries_in a.after)) a.front_is ∙ ap (λ b. front ++ (option_to_list v ++ b)) a.back_is;
+      inside = subst (λ ss. at < length ss) (sym a.is) (rw here (grind (arith, common_steps)));
+      before = a.before;
+      after = a.after;
+      own = (e.taken, Some e);
+      at_is = here;
+      slots_is = a.is;
+      new_is = left ∙ ap (λ n. a.before ++ (n, v) ∷ a.after) told;
     }
   where
     some_position : (p l at : ℕ) → Some at ≡ cond (ltb p l) (Some p) None → at ≡ p

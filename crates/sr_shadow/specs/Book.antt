@@ -67,10 +67,10 @@ reserved_for key book = record book { ready = Some key }
 -- the key is registered; a registered key's book stays as it is
 abbrev pub with_new : KeyView → ℕ → Book → Book
 with_new key version book = record book {
-    entries = book.entries ++ fresh key version book.taken ∷ [];
-    taken = book.taken + 1;
-    ready = None
-  }
+  entries = book.entries ++ fresh key version book.taken ∷ [];
+  taken = book.taken + 1;
+  ready = None;
+}
 
 abbrev pub with_closed : KeyView → Book → Book
 with_closed key book = record book { entries = with_changed closed key book.entries }

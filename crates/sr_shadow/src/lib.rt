@@ -24,5 +24,5 @@ mod took;
 
 pub use entry::Entry;
 pub use plan::Plan;
-pub use shadow::Shadow;
+pub use shadow::{Shadow, book_rules};
 pub use took::Took;

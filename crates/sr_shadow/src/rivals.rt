@@ -6,6 +6,7 @@ ghost use Rattle.sr_shadow.specs.Rivals.{class_of, tally_of, FewTallied, HasTall
 ghost use Rattle.sr_shadow.specs.declared.entry.Entry.{Entry as AnEntry};
 
 use crate::Entry;
+use crate::entry::outside;
 use crate::tally::Tally;
 use indexmap::IndexMap;
 use sr_base::{Key, Layout, Place, layout_ranges};
@@ -89,6 +90,9 @@ impl Rivals {
         ensures swapped { (front back : List AnEntry) → Tallied layout.now.shape way (get nat_eq self.old.map) (front ++ old.now ∷ back) → Tallied layout.now.shape way (get nat_eq self.new.map) (front ++ new.now ∷ back) }
         ensures room { spare self.old.map ≤ spare self.new.map }
     {
+        if outside(old) == outside(new) {
+            return;
+        }
         let class = class(layout, way, old.key);
         let tally = self.tally(class);
         let other = Tally {
@@ -136,14 +140,4 @@ fn class(layout: &Layout, way: u8, key: Key) -> u64
     let bucket = bucket(way, key, shape.buckets);
     let digest = digest(way, key, shape.digest_bits);
     (key.vip as u64 * 65_536 + bucket as u64) * 65_536 + digest as u64
-}
-
-// 1 for an entry that isn't placed in a row of the full-key table, else 0.
-pub(crate) fn outside(entry: &Entry) -> u64
-    ensures { result ≡ cond (is_outside entry.now) 1 0 }
-{
-    match entry.place {
-        Some(Place::Row { .. }) => 0,
-        _ => 1,
-    }
 }

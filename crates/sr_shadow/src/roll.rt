@@ -195,12 +195,7 @@ fn standing_of(alloc: Global, slots: &Slots) -> Result<Standing, AllocError>
 }
 
 // One slot more, where it has an entry.
-fn keep(
-    alloc: Global,
-    slots: &Slots,
-    at: usize,
-    standing: &mut Standing,
-) -> Result<(), AllocError>
+fn keep(alloc: Global, slots: &Slots, at: usize, standing: &mut Standing) -> Result<(), AllocError>
     ensures { OnOk result (StandsFor standing.old (kept at slots.now.entries) → StandsFor standing.new (kept (at + 1) slots.now.entries)) }
 {
     match entry_at(slots, at) {

@@ -7,9 +7,10 @@ ghost use Rattle.sr_shadow.specs.Taking.{Takes};
 ghost use Rattle.sr_shadow.specs.declared.entry.Entry.{Entry as AnEntry};
 
 use crate::counts::Counts;
+use crate::entry::{holds, outside, quiet_after};
 use crate::holders::{Holders, cell};
 use crate::numbers::Numbers;
-use crate::rivals::{Rivals, outside};
+use crate::rivals::Rivals;
 use crate::roll::Roll;
 use crate::{Entry, Took};
 use sr_base::{Key, Layout, Place, Version, key_ranges, layout_ranges};
@@ -372,24 +373,6 @@ impl Shadow {
     }
 }
 
-// The quiet sweeps since the base after one more, which found a hit or found none.
-fn quiet_after(hit: bool, quiet: Option<u8>) -> u8
-    ensures { result ≡ quiet_after hit quiet }
-{
-    match quiet {
-        None => 0,
-        Some(n) => {
-            if hit {
-                0
-            } else if n < 255 {
-                n + 1
-            } else {
-                255
-            }
-        }
-    }
-}
-
 // 1 for an entry that isn't placed in a row of the full-key table, else 0.
 fn outside_by_one(entry: Option<&Entry>) -> u64
     ensures { result ≡ own_outside (option_copied entry.entry) }
@@ -416,37 +399,10 @@ fn holder_if(entry: Option<&Entry>, place: Place) -> Option<Key>
     }
 }
 
-// Whether the entry holds the place.
-fn holds(entry: &Entry, place: Place) -> bool
-    ensures { result ≡ holds place entry.now }
+/// What holds of every book: no key has two entries, no place is held twice, the keys are in range, and the numbers rise and are below the
+/// number of entries that were ever taken, which is at most 2^56.
+pub fn book_rules(shadow: &Shadow)
+    ensures { IsBook shadow.now.entries shadow.now.taken }
 {
-    is_at(entry.place, place) || is_at(entry.also, place)
-}
-
-// Whether a place, if there is one, is this one.
-fn is_at(held: Option<Place>, place: Place) -> bool
-    ensures { result ≡ is_at place held }
-{
-    match held {
-        Some(held) => is_same(place, held),
-        None => false,
-    }
-}
-
-// Whether two places are one.
-fn is_same(a: Place, b: Place) -> bool
-    ensures { result ≡ same_place a b }
-{
-    match (a, b) {
-        (
-            Place::Slot { way, bucket, cell },
-            Place::Slot {
-                way: other_way,
-                bucket: other_bucket,
-                cell: other_cell,
-            },
-        ) => way == other_way && bucket == other_bucket && cell == other_cell,
-        (Place::Row { row }, Place::Row { row: other }) => row == other,
-        _ => false,
-    }
+    let _ = &shadow.layout;
 }

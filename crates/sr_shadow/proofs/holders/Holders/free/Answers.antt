@@ -11,4 +11,4 @@ returns-in-Some c = λ front back once h.
 pub returns-in-None : goal.returns-in-None
 returns-in-None c = λ front back once h.
     held_alike c.args.layout.now.shape _ (front ++ left_other c.args.entry.now ∷ back) (front ++ back)
-        (λ other. holder_none front back (left_other c.args.entry.now) (once_left front back c.args.entry.now once) refl c.in-None.is other) (c.leave.ensures.left front back once h)
+    (λ other. holder_none front back (left_other c.args.entry.now) (once_left front back c.args.entry.now once) refl c.in-None.is other) (c.leave.ensures.left front back once h)

@@ -9,8 +9,8 @@ pub invariant_of-self : goal.invariant_of-self
 invariant_of-self c =
     let e = c.in-Ok.ensures.entries ∙ insert_entry-new nat_eq c.self.inside.slots c.self.inside.taken (Some c.args.entry) (none_above 0 _ _ _ c.self.invariant.rising (omega arith)) in
     record {
-        rising = subst (λ ss. Rising 0 ss (c.self.inside.taken + 1)) (sym e) (rising_more 0 _ _ c.args.entry (c.requires.number ∙ sym (ap (λ v. v.taken) c.self.view_is)) c.self.invariant.rising);
-        stands = subst (λ ss. StandsFor c.push.new.self ss) (sym e) (c.push.ensures _ c.self.inside.taken c.self.invariant.stands)
+      rising = subst (λ ss. Rising 0 ss (c.self.inside.taken + 1)) (sym e) (rising_more 0 _ _ c.args.entry (c.requires.number ∙ sym (ap (λ v. v.taken) c.self.view_is)) c.self.invariant.rising);
+      stands = subst (λ ss. StandsFor c.push.new.self ss) (sym e) (c.push.ensures _ c.self.inside.taken c.self.invariant.stands);
     }
 
 pub returns-clause-entries : goal.returns-clause-entries

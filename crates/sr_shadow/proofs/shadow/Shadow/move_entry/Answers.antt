@@ -31,17 +31,18 @@ invariant_of-self c =
     let e = c.args.entry.now in
     let s = split c.args.key c.self.inside.roll.entries e c.self.invariant.0.book.distinct (ap (λ b. entry_for c.args.key b.entries) c.self.view_is ∙ c.requires.registered) in
     let h = shadow_conv _ _ _ _ _ _ _ _ _ _ s.is refl c.self.invariant.0 in
-    let free = sym (ap (holder_of c.args.place) s.is) ∙ ap (λ b. holder_of c.args.place b.entries) c.self.view_is ∙ c.requires.free in
-    (shadow_conv _ _ _ _ _ _ _ _ _ _ (sym (c.put.ensures.entries s.front s.back e s.is refl)) (sym c.put.ensures.taken)
-        (shadow_settled _ s.front s.back e c.args.place _ _ _ _ _ _ _ _ _ c.requires.alone free (c.swap.ensures.swapped s.front s.back h.first) (c.swap-2.ensures.swapped s.front s.back h.second)
-            (c.settle.ensures s.front s.back h.book.once c.requires.alone free h.held) h),
-     room_more c.self.inside.ready _ _ _ _ _ _ _ _ c.put.ensures.room (omega arith) c.swap.ensures.room c.swap-2.ensures.room c.self.invariant.1)
+    let free = sym (ap (holder_of c.args.place) s.is) ∙ ap (λ b. holder_of c.args.place b.entries) c.self.view_is ∙ c.requires.free in (
+      shadow_conv _ _ _ _ _ _ _ _ _ _ (sym (c.put.ensures.entries s.front s.back e s.is refl)) (sym c.put.ensures.taken)
+          (shadow_settled _ s.front s.back e c.args.place _ _ _ _ _ _ _ _ _ c.requires.alone free (c.swap.ensures.swapped s.front s.back h.first) (c.swap-2.ensures.swapped s.front s.back h.second)
+          (c.settle.ensures s.front s.back h.book.once c.requires.alone free h.held) h),
+      room_more c.self.inside.ready _ _ _ _ _ _ _ _ c.put.ensures.room (omega arith) c.swap.ensures.room c.swap-2.ensures.room c.self.invariant.1,
+    )
 
 pub returns : goal.returns
 returns c =
     let e = c.args.entry.now in
     let s = split c.args.key c.self.inside.roll.entries e c.self.invariant.0.book.distinct (ap (λ b. entry_for c.args.key b.entries) c.self.view_is ∙ c.requires.registered) in
     book_is c.self.inside.layout c.self.inside.ready _ _ _ _
-        (c.put.ensures.entries s.front s.back e s.is refl ∙ sym (changed_split (settled c.args.place) c.args.key s.front s.back e s.own s.before s.after) ∙ ap (with_changed (settled c.args.place) c.args.key) (sym s.is))
-        c.put.ensures.taken
+    (c.put.ensures.entries s.front s.back e s.is refl ∙ sym (changed_split (settled c.args.place) c.args.key s.front s.back e s.own s.before s.after) ∙ ap (with_changed (settled c.args.place) c.args.key) (sym s.is))
+    c.put.ensures.taken
     ∙ ap (with_settled c.args.key c.args.place) c.self.view_is
