@@ -6,10 +6,12 @@
 #![tactic(auto)]
 
 mod clear;
+mod laws;
 mod moves;
 mod planning;
 mod rows;
 mod slots;
 
+pub use laws::{later_ways, slots_stay_apart, taking_makes_no_room};
 pub use planning::plan;
 pub use sr_shadow::Plan;

@@ -2,7 +2,7 @@
 --
 -- Places are tried in the order of the ways, and of the cells in a bucket: a slot of its buckets; a slot once one entry has moved; a row of its
 -- group in the table of full keys.
-use Rattle.std.specs.Prelude.{◌≡◌, ℕ, ◌+◌, ◌*◌, ◌==◌, Bool, true, false, not, ◌&&◌, ◌||◌, List, [], ◌∷◌, ◌++◌, is_none, Option, None, Some, find, option_map, unwrap_or, if◌then◌else◌}
+use Rattle.std.specs.Prelude.{◌≡◌, ℕ, ◌+◌, ◌*◌, ◌==◌, Bool, true, false, not, ◌&&◌, ◌||◌, List, [], ◌∷◌, ◌++◌, is_none, Option, None, Some, find, option_map, slice_get, unwrap_or, if◌then◌else◌}
 use Rattle.std.specs.List.{list_any}
 use Rattle.std.specs.Option.{option_or}
 use Rattle.sr_base.specs.Key.{KeyView}
@@ -12,7 +12,7 @@ use Rattle.sr_base.specs.declared.shape.Shape.{Shape}
 use Rattle.sr_hash.specs.Clash.{clashes}
 use Rattle.sr_hash.specs.Uses.{bucket_of, group_of}
 use Rattle.sr_shadow.specs.Book.{holder_of, is_clashing, is_registered, with_changed}
-use Rattle.sr_shadow.specs.Entry.{fresh, is_at, is_of, is_placed}
+use Rattle.sr_shadow.specs.Entry.{fresh, is_at, is_of, is_outside, is_placed}
 use Rattle.sr_shadow.specs.declared.entry.Entry.{Entry}
 use Rattle.sr_shadow.specs.declared.plan.Plan.{Plan}
 use Rattle.sr_shadow.specs.declared.plan.Plan.TheVariants as plan
@@ -154,3 +154,12 @@ first_plan shape es key = unwrap_or (option_or (slot_plan shape es key) (option_
 -- the key has no Live place
 abbrev pub IsUnplaced : KeyView → List Entry → Type 0
 IsUnplaced key es = list_any (λ e. is_of key e && is_placed e) es ≡ false
+
+-- ---- what a planned slot keeps
+
+-- each registered key outside the full-key table is clear; or each but one
+abbrev pub AllClear : Shape → List Entry → Type 0
+AllClear shape es = (i : ℕ) (e : Entry) → slice_get es i ≡ Some e → is_outside e ≡ true → is_clear shape es e.key ≡ true
+
+abbrev pub AllClearBut : KeyView → Shape → List Entry → Type 0
+AllClearBut key shape es = (i : ℕ) (e : Entry) → slice_get es i ≡ Some e → is_of key e ≡ false → is_outside e ≡ true → is_clear shape es e.key ≡ true
