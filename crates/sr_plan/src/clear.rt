@@ -72,7 +72,7 @@ fn is_mistaken_at(shadow: &Shadow, layout: &Layout, key: Key, other: Key, i: usi
 }
 
 // Whether they are taken for this entry's, which isn't the other key's.
-fn is_mistaken_but(layout: &Layout, key: Key, other: Key, entry: &Entry) -> bool
+pub(crate) fn is_mistaken_but(layout: &Layout, key: Key, other: Key, entry: &Entry) -> bool
     ensures { result ≡ is_mistaken_but layout.now.shape key other entry.now }
 {
     !same_key(other, entry.key) && (!same_key(key, entry.key) && clashes_at(layout, key, entry))
