@@ -38,16 +38,20 @@ one_way o own n at first second = by (n == 1) (n == 2) refl refl
     blank : (a b : Bool) → b ≡ false → (not a && (true && b)) ≡ false
     blank true b e = refl
     blank false b e = e
+
     far : (a b : Bool) → (not a && (not b && false)) ≡ false
     far = nowhere
+
     inner : (n : ℕ) (k : ℕ) → n ≡ k → (not own && at k) ≡ false → (not own && at n) ≡ false
     inner n k e h = subst (λ m. (not own && at m) ≡ false) (sym e) h
+
     keep : (a : Bool) → (not own && a) ≡ false → (not o && (not own && (true && a))) ≡ false
     keep a h = lift o (not own && a) h
       where
         lift : (x y : Bool) → y ≡ false → (not x && y) ≡ false
         lift true y e = refl
         lift false y e = e
+
     by : (p q : Bool) → (n == 1) ≡ p → (n == 2) ≡ q → (not o && (not own && ((p || q) && at n))) ≡ false
     by true q e f = keep (at n) (inner n 1 (grind (arith, nat_tests)) first)
     by false true e f = keep (at n) (inner n 2 (grind (arith, nat_tests)) second)

@@ -17,3 +17,6 @@ pub use laws::{later_ways, slots_stay_apart, taking_makes_no_room};
 pub use plain::plan_plain;
 pub use planning::plan;
 pub use sr_shadow::Plan;
+
+#[cfg(test)]
+mod tests;

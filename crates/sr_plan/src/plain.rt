@@ -85,13 +85,29 @@ fn usable_in(layout: &Layout, es: &[Entry], key: Key, way: u8) -> Option<Place>
     layout_ranges(layout);
     let bucket = bucket(way, key, layout.shape().buckets);
     if is_usable(layout, es, key, way, bucket, 0) {
-        Some(Place::Slot { way, bucket, cell: 0 })
+        Some(Place::Slot {
+            way,
+            bucket,
+            cell: 0,
+        })
     } else if is_usable(layout, es, key, way, bucket, 1) {
-        Some(Place::Slot { way, bucket, cell: 1 })
+        Some(Place::Slot {
+            way,
+            bucket,
+            cell: 1,
+        })
     } else if is_usable(layout, es, key, way, bucket, 2) {
-        Some(Place::Slot { way, bucket, cell: 2 })
+        Some(Place::Slot {
+            way,
+            bucket,
+            cell: 2,
+        })
     } else if is_usable(layout, es, key, way, bucket, 3) {
-        Some(Place::Slot { way, bucket, cell: 3 })
+        Some(Place::Slot {
+            way,
+            bucket,
+            cell: 3,
+        })
     } else {
         None
     }
@@ -235,21 +251,26 @@ fn move_of(
         return Ok(None);
     };
     let moved = with_moved(alloc, es, other, to)?;
-    Ok(move_if_clear(is_clear_but(layout, es, key, other), other, from, to, usable(layout, &moved, key)))
+    Ok(move_if_clear(
+        is_clear_but(layout, es, key, other),
+        other,
+        from,
+        to,
+        usable(layout, &moved, key),
+    ))
 }
 
-fn move_if_clear(
-    clear: bool,
-    key: Key,
-    from: Place,
-    to: Place,
-    last: Option<Place>,
-) -> Option<Plan>
+fn move_if_clear(clear: bool, key: Key, from: Place, to: Place, last: Option<Place>) -> Option<Plan>
     ensures { result ≡ move_if_clear clear key from to last }
 {
     let then = last?;
     if clear {
-        Some(Plan::Move { key, from, to, then })
+        Some(Plan::Move {
+            key,
+            from,
+            to,
+            then,
+        })
     } else {
         None
     }
@@ -305,12 +326,7 @@ fn fresh(key: Key) -> Entry
 }
 
 // The entries with a key's at another place, which it holds alone.
-fn with_moved(
-    alloc: Global,
-    es: &[Entry],
-    other: Key,
-    to: Place,
-) -> Result<Vec<Entry>, AllocError>
+fn with_moved(alloc: Global, es: &[Entry], other: Key, to: Place) -> Result<Vec<Entry>, AllocError>
     ensures { IfOk result (λ v. v.items ≡ with_moved other to es.now) }
 {
     let mut all = Vec::new(alloc);
