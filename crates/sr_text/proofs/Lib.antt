@@ -1,0 +1,4 @@
+pub mod Decimals
+pub mod FieldTexts
+pub mod LineTexts
+pub mod Words

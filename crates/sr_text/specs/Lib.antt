@@ -1,4 +1,5 @@
 pub mod Fields
+pub mod Fronts
 pub mod LineText
 pub mod Log
 pub mod Ranges
