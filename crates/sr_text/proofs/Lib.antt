@@ -1,4 +1,5 @@
 pub mod Decimals
 pub mod FieldTexts
 pub mod LineTexts
+pub mod Logs
 pub mod Words
