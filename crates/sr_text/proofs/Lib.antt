@@ -1,5 +1,7 @@
 pub mod Decimals
 pub mod FieldTexts
+pub mod Lengths
 pub mod LineTexts
 pub mod Logs
+pub mod Windows
 pub mod Words

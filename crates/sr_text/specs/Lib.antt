@@ -3,3 +3,4 @@ pub mod Fronts
 pub mod LineText
 pub mod Log
 pub mod Ranges
+pub mod Window

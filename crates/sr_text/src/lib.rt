@@ -14,6 +14,8 @@ mod numbers;
 mod printing;
 mod put;
 mod reading;
+mod refill;
+mod window;
 mod word;
 
 pub use fields::put_key;
