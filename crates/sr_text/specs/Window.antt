@@ -1,5 +1,5 @@
 -- The bytes of a source that were read and aren't used yet.
-use Rattle.std.specs.Prelude.{◌≡◌, ℕ, ◌≤◌, ◌⊎◌, Bool, true, List, [], ◌++◌, length, take, Option, Some}
+use Rattle.std.specs.Prelude.{◌≡◌, ℕ, ◌≤◌, ◌⊎◌, Bool, true, List, [], ◌++◌, length, take, slice_range, Option, Some}
 use Rattle.sr_text.specs.declared.refill.Refilled.{Refilled}
 use Rattle.sr_text.specs.declared.window.TopUp.{TopUp}
 use Rattle.sr_text.specs.declared.window.TopUp.TheVariants.{Ready}
@@ -16,6 +16,12 @@ pub record Ahead (n : ℕ) (buffer : List ℕ) (left : Option (List ℕ)) (bytes
   pub rest : List ℕ
   pub told : left ≡ Some rest
   pub whole : bytes ≡ take n buffer ++ rest
+
+-- a part of a buffer, and then those that are left, are these
+pub record Between (start end : ℕ) (buffer : List ℕ) (left : Option (List ℕ)) (bytes : List ℕ) : Type 0 where
+  pub rest : List ℕ
+  pub told : left ≡ Some rest
+  pub whole : bytes ≡ slice_range buffer start end ++ rest
 
 -- More bytes came behind those that were there; or all that were left did.
 abbrev pub Refills : Refilled → List ℕ → Option (List ℕ) → List ℕ → Type 0

@@ -1,6 +1,6 @@
-ghost use Rattle.std.specs.Prelude.{◌≡◌, ℕ, ◌<◌, ◌≤◌, Bool, true, false, List, [], length, drop, Some, IfOk};
+ghost use Rattle.std.specs.Prelude.{◌≡◌, ℕ, ◌-◌, ◌<◌, ◌≤◌, Bool, true, false, List, [], length, take, drop, slice_range, Some, IfOk};
 ghost use Rattle.sr_io.specs.Faults.{Rose};
-ghost use Rattle.sr_text.specs.Window.{IsFull, Keeps};
+ghost use Rattle.sr_text.specs.Window.{Between, IsFull, IsRefill, Keeps, Refills};
 ghost use Rattle.sr_text.specs.declared.window.TopUp.TheVariants.{Ready, Failed};
 
 use crate::refill::{Refilled, refill};
@@ -78,16 +78,18 @@ impl Window {
         ensures count { S.faults source.old ≤ S.faults source.new }
         ensures failed { result ≡ Failed → Rose (S.faults source.old) (S.faults source.new) }
     {
-        if self.over || self.end - self.at >= LINE {
+        let count = self.end - self.at;
+        if self.over || count >= LINE {
             return TopUp::Ready;
         }
-        self.to_front();
-        match refill(source, &mut self.bytes, self.end, LINE) {
+        match read_on(source, &mut self.bytes, self.at, self.end) {
             Refilled::Enough(end) => {
+                self.at = 0;
                 self.end = end;
                 TopUp::Ready
             }
             Refilled::Ended(end) => {
+                self.at = 0;
                 self.end = end;
                 self.over = true;
                 TopUp::Ready
@@ -95,13 +97,29 @@ impl Window {
             Refilled::Failed => TopUp::Failed,
         }
     }
+}
 
-    // Moves the bytes to the buffer's front.
-    fn to_front(&mut self)
-        ensures { self.new ≡ self.old }
-    {
-        self.bytes.copy_within(self.at..self.end, 0);
-        self.end -= self.at;
-        self.at = 0;
-    }
+// Moves a part of a buffer to its front, and reads on behind it.
+#[tactic(auto, using(crate::proofs::Windows::between_ahead))]
+fn read_on<S: Source>(source: &mut S, bytes: &mut [u8], start: usize, end: usize) -> Refilled
+    requires order { start ≤ end }
+    requires within { end ≤ length bytes.old }
+    requires room { 200 ≤ length bytes.old }
+    ensures bytes { (xs : List ℕ) → Between start end bytes.old (S.left source.old) xs → Refills result bytes.new (S.left source.new) xs }
+    ensures size { IsRefill result 200 bytes.new }
+    ensures count { S.faults source.old ≤ S.faults source.new }
+    ensures failed { result ≡ Refilled.Failed → Rose (S.faults source.old) (S.faults source.new) }
+{
+    to_front(bytes, start, end);
+    refill(source, bytes, end - start, LINE)
+}
+
+// Moves a part of a buffer to its front.
+#[tactic(auto, using(crate::proofs::Windows::moved))]
+fn to_front(bytes: &mut [u8], start: usize, end: usize)
+    requires order { start ≤ end }
+    requires within { end ≤ length bytes.old }
+    ensures { take (end - start) bytes.new ≡ slice_range bytes.old start end }
+{
+    bytes.copy_within(start..end, 0);
 }
