@@ -1,3 +1,4 @@
+pub mod Adding
 pub mod Fields
 pub mod Fronts
 pub mod LineText

@@ -2,6 +2,7 @@
 //! together in a buffer on the stack and goes to the sink in one write.
 #![tactic(auto)]
 
+mod adding;
 mod field_fronts;
 mod fields;
 mod line_at;
