@@ -1,8 +1,7 @@
 -- The fields of lines: what is printed is read, and what is read is what is printed.
-use Rattle.std.proofs.Common.{◌≡◌, ℕ, ◌+◌, ◌-◌, ◌*◌, ◌/◌, ◌%◌, ◌^◌, ◌<◌, ◌≤◌, List, [], ◌∷◌, ◌++◌, Option, Some, None, false, refl, sym, ap, ◌∙◌, subst, arith}
+use Rattle.std.proofs.Common.{◌≡◌, ℕ, ◌+◌, ◌*◌, ◌/◌, ◌%◌, ◌^◌, ◌<◌, List, [], ◌∷◌, ◌++◌, Option, Some, None, false, refl, ap, ◌∙◌, subst, arith}
 use Rattle.std.specs.Prelude.{codes}
 use Rattle.std.specs.Fmt.{decimal}
-use Rattle.std.specs.Option.{option_and_then}
 use Rattle.sr_base.specs.Key.{KeyView, IsKey}
 use Rattle.sr_base.specs.declared.kind.Kind.{Kind}
 use Rattle.sr_base.specs.declared.kind.Kind.TheVariants.{Opener, Carry, Ending}
@@ -14,11 +13,11 @@ use Rattle.sr_law.specs.declared.verdict.HeldBy.TheVariants.{Clash, Hold, Transi
 use Rattle.sr_law.specs.declared.verdict.Verdict.{Verdict}
 use Rattle.sr_law.specs.declared.verdict.Verdict.TheVariants.{To, Held, Down, Full, NoPlace}
 use Rattle.sr_text.specs.Fields.{address_text, key_text, kind_text, place_text, choice_text, verdict_text}
-use Rattle.sr_text.specs.LineText.{skip_word, skip_text}
+use Rattle.sr_text.specs.LineText.{skip_word}
 use Rattle.sr_text.specs.Ranges.{IsPlace, IsChoice, IsVerdict}
-use Rattle.sr_text.specs.Fronts.{is_digit, after_word, field_front, address_front, key_front, kind_front, slot_front, row_front, place_front, choice_front, to_front, down_front, plain_front, verdict_front, why_front, skip_front, said, choose}
+use Rattle.sr_text.specs.Fronts.{is_digit, after_word, address_front, key_front, kind_front, slot_front, row_front, place_front, choice_front, to_front, down_front, plain_front, verdict_front, why_front, skip_front, said, choose}
 use Rattle.sr_text.proofs.Decimals.{field_there, field_then, bind_some}
-use Rattle.sr_text.proofs.Words.{after_word_there, after_word_takes}
+use Rattle.sr_text.proofs.Words.{after_word_takes}
 
 -- what a word says was read, or the rest of the choice was
 pub said_then : {A P : Type 0} (value : A) (word bytes : List ℕ) (otherwise : Option (A × List ℕ)) (x : A × List ℕ) → said value word bytes otherwise ≡ Some x

@@ -1,5 +1,5 @@
 -- Lines: what is printed is read, and what is read is what is printed.
-use Rattle.std.proofs.Common.{◌≡◌, ℕ, ◌^◌, ◌<◌, ◌≤◌, List, [], ◌∷◌, ◌++◌, Option, Some, None, false, refl, sym, ap, ◌∙◌, subst, append_assoc, arith}
+use Rattle.std.proofs.Common.{◌≡◌, ℕ, ◌^◌, ◌<◌, ◌≤◌, List, ◌∷◌, ◌++◌, Option, Some, None, refl, sym, ap, ◌∙◌, subst, append_assoc, arith}
 use Rattle.std.specs.Prelude.{codes}
 use Rattle.std.specs.Fmt.{decimal}
 use Rattle.std.specs.Option.{option_and_then}
@@ -8,7 +8,6 @@ use Rattle.sr_base.specs.declared.kind.Kind.{Kind}
 use Rattle.sr_base.specs.declared.kind.Kind.TheVariants.{Opener, Carry, Ending}
 use Rattle.sr_base.specs.declared.place.Place.{Place}
 use Rattle.sr_base.specs.declared.place.Place.TheVariants.{Slot, Row}
-use Rattle.sr_frame.specs.declared.skip.Skip.{Skip}
 use Rattle.sr_law.specs.declared.line.Line.{Line}
 use Rattle.sr_law.specs.declared.line.Line.TheVariants.{Packet, Answer, Given, Recorded, Hold, Switched, Finished, TakenDown, Reserved, Placed, Cleared, Swept, Retired, Refused}
 use Rattle.sr_law.specs.declared.verdict.HeldBy.TheVariants as held
@@ -16,10 +15,10 @@ use Rattle.sr_law.specs.declared.verdict.Verdict.{Verdict}
 use Rattle.sr_law.specs.declared.verdict.Verdict.TheVariants.{To, Held, Down, Full, NoPlace}
 use Rattle.sr_text.specs.declared.name.Name.{Name}
 use Rattle.sr_text.specs.declared.name.Name.TheVariants as name
-use Rattle.sr_text.specs.Fields.{field, address_text, key_text, kind_text, place_text, choice_text, verdict_text}
-use Rattle.sr_text.specs.LineText.{line_text, skip_word, skip_text}
-use Rattle.sr_text.specs.Ranges.{IsPlace, IsVerdict, IsLine}
-use Rattle.sr_text.specs.Fronts.{field_front, key_front, kind_front, place_front, verdict_front, name_front, change_name_front, tick_front, packet_front, answer_front, give_front, switch_front, sweep_front, retire_front, numbered_front, entry_front, named_front, line_front}
+use Rattle.sr_text.specs.Fields.{field, address_text, key_text, kind_text, place_text, verdict_text}
+use Rattle.sr_text.specs.LineText.{line_text}
+use Rattle.sr_text.specs.Ranges.{IsPlace, IsLine}
+use Rattle.sr_text.specs.Fronts.{key_front, kind_front, place_front, verdict_front, name_front, change_name_front, packet_front, answer_front, give_front, switch_front, sweep_front, retire_front, numbered_front, entry_front, named_front, line_front}
 use Rattle.sr_text.proofs.Decimals.{field_there, field_then, bind_some}
 use Rattle.sr_text.proofs.FieldTexts.{said_then, key_there, key_takes, kind_there, kind_takes, place_there, place_takes, verdict_there, verdict_takes}
 

@@ -1,17 +1,16 @@
 -- Logs: of two texts of the grammar, one of which begins with the other, and of what comes next.
-use Rattle.std.proofs.Common.{◌≡◌, ◌≢◌, ℕ, ◌+◌, ◌^◌, ◌<◌, ◌≤◌, List, [], ◌∷◌, ◌++◌, length, take, drop, Option, Some, None, MatchOption, Bor, option_map, refl, sym, ap, ◌∙◌, subst, inl, inr, ◌⊎◌, append_assoc, arith}
+use Rattle.std.proofs.Common.{◌≡◌, ℕ, ◌+◌, ◌<◌, ◌≤◌, List, [], ◌∷◌, ◌++◌, length, Option, Some, None, MatchOption, Bor, option_map, refl, sym, ap, ◌∙◌, inl, inr, ◌⊎◌, append_assoc, arith}
 use Rattle.std.proofs.lemmas.List.{append_cancel_left, append-nil}
 use Rattle.std.proofs.lemmas.List.Elements.{recursion_from_All}
 use Rattle.std.specs.Prelude.{codes}
-use Rattle.std.specs.List.{flat_map, All, AllByRecursion}
+use Rattle.std.specs.List.{flat_map, AllByRecursion}
 use Rattle.std.specs.Fmt.{decimal}
-use Rattle.std.specs.Option.{option_and_then}
 use Rattle.sr_frame.specs.declared.skip.Skip.{Skip}
 use Rattle.sr_law.specs.declared.line.Line.{Line}
 use Rattle.sr_text.specs.LineText.{head_text, line_text, skip_word, skip_text, log_text}
 use Rattle.sr_text.specs.Ranges.{IsLine, IsSkipped}
-use Rattle.sr_text.specs.Log.{IsLog, LineNext, SkipNext, GoesOn, BadAfter, IsFirstBad, line_count}
-use Rattle.sr_text.specs.Fronts.{line_front, skip_front, name_front, change_name_front, after_word}
+use Rattle.sr_text.specs.Log.{IsLog, LineNext, SkipNext, GoesOn, IsFirstBad, line_count}
+use Rattle.sr_text.specs.Fronts.{line_front, skip_front, name_front, change_name_front}
 use Rattle.sr_text.proofs.FieldTexts.{skip_there, skip_takes}
 use Rattle.sr_text.proofs.LineTexts.{line_there, line_takes}
 

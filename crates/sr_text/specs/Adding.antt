@@ -1,8 +1,8 @@
 -- How a log grows line by line.
-use Rattle.std.specs.Prelude.{◌≡◌, ◌≢◌, ℕ, ◌+◌, ◌≤◌, Bool, List, [], ◌∷◌, ◌++◌, Option, Some, Result, Ok, Err}
+use Rattle.std.specs.Prelude.{◌≡◌, ◌≢◌, ℕ, ◌+◌, ◌≤◌, List, [], ◌∷◌, ◌++◌, Option, Some, Result, Ok, Err}
 use Rattle.sr_frame.specs.declared.skip.Skip.{Skip}
 use Rattle.sr_law.specs.declared.line.Line.{Line}
-use Rattle.sr_text.specs.LineText.{head_text, line_text, skip_text, log_text}
+use Rattle.sr_text.specs.LineText.{head_text, log_text}
 use Rattle.sr_text.specs.Log.{IsLog, GoesOn, IsFirstBad, line_count}
 use Rattle.sr_text.specs.Window.{Pending, WindowView}
 use Rattle.sr_text.specs.declared.adding.Added.{Added}

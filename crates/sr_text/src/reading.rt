@@ -31,6 +31,16 @@ pub fn read_lines<S: Source>(alloc: Global, source: &mut S) -> Result<Log, LogRe
     ensures count { S.faults source.old ≤ S.faults source.new }
     ensures read_fault { result ≡ Err ReadFault → Rose (S.faults source.old) (S.faults source.new) }
 {
+    read_log(alloc, source)
+}
+
+// Reads a log.
+fn read_log<S: Source>(alloc: Global, source: &mut S) -> Result<Log, LogRefusal>
+    ensures text { (xs : List ℕ) → S.left source.old ≡ Some xs → Reads (λ log. log.skips.items) (λ log. log.lines.items) result xs (S.left source.new) }
+    ensures read { IsRead (λ log. log.skips.items) (λ log. log.lines.items) result }
+    ensures count { S.faults source.old ≤ S.faults source.new }
+    ensures read_fault { result ≡ Err ReadFault → Rose (S.faults source.old) (S.faults source.new) }
+{
     let mut window = match Window::new(alloc) {
         Ok(window) => window,
         Err(_) => return Err(LogRefusal::Memory),
@@ -60,8 +70,9 @@ fn read_head<S: Source>(source: &mut S, window: &mut Window) -> Result<(), LogRe
         TopUp::Ready => {}
         TopUp::Failed => return Err(LogRefusal::ReadFault),
     }
-    if after_word(b"silkroad 1\n", window.unread()).is_none() {
-        return Err(LogRefusal::BadLine { number: 1 });
+    match after_word(b"silkroad 1\n", window.unread()) {
+        Some(_) => {}
+        None => return Err(LogRefusal::BadLine { number: 1 }),
     }
     window.pass(11);
     Ok(())

@@ -1,4 +1,4 @@
-use Rattle.std.proofs.Common.{◌-◌, ◌≤◌, length, arith}
+use Rattle.std.proofs.Common.{◌≤◌, length, arith}
 use Rattle.sr_text.proofs.Windows.{ahead_more, ahead_all, within_more}
 use Rattle.sr_text.proofs.refill.refill.Goals as goal
 

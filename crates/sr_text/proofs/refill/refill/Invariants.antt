@@ -1,4 +1,4 @@
-use Rattle.std.proofs.Common.{◌≡◌, ℕ, ◌≤◌, ◌-◌, List, length}
+use Rattle.std.proofs.Common.{ℕ, ◌≤◌, ◌-◌, List, length}
 use Rattle.sr_text.specs.Window.{Ahead}
 use Rattle.sr_text.proofs.refill.refill.Given as goal
 

@@ -1,4 +1,4 @@
-use Rattle.std.proofs.Common.{◌≡◌, ◌-◌, ◌≤◌, ap, sym, ◌∙◌, Bool, List, ℕ, drop, length, arith}
+use Rattle.std.proofs.Common.{ap, length, arith}
 use Rattle.sr_text.specs.Window.{WindowView}
 use Rattle.sr_text.proofs.Windows.{window_pass, slice_length}
 use Rattle.sr_text.proofs.window.Window.pass.Goals as goal

@@ -1,4 +1,4 @@
-use Rattle.std.proofs.Common.{◌≡◌, ◌≤◌, ℕ, List, Option, true, ◌++◌, drop, take, length, ap, sym, subst, ◌∙◌, inl, arith}
+use Rattle.std.proofs.Common.{◌≤◌, ℕ, List, true, drop, length, ap, sym, subst, ◌∙◌, inl, arith}
 use Rattle.std.specs.List.{slice_range}
 use Rattle.std.proofs.lemmas.List.{take_at}
 use Rattle.sr_text.specs.Window.{Pending, WindowView}
