@@ -16,6 +16,8 @@ mod printing;
 mod put;
 mod reading;
 mod refill;
+#[cfg(test)]
+mod tests;
 mod window;
 mod word;
 
