@@ -5,6 +5,7 @@
 mod adding;
 mod field_fronts;
 mod fields;
+mod laws;
 mod line_at;
 mod line_fronts;
 mod line_text;
@@ -22,6 +23,7 @@ mod window;
 mod word;
 
 pub use fields::put_key;
+pub use laws::{line_ranges, log_ranges};
 pub use line_text::LineText;
 pub use log::Log;
 pub use log_refusal::LogRefusal;

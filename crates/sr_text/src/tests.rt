@@ -161,7 +161,10 @@ fn long_lines(rt: HostRuntime) -> Result<(), Fail> {
         }
         text.push('\n')?;
         let bad = LogRefusal::BadLine { number: 2 };
-        assert_eq!(rt; refusal(rt.alloc(), text.as_bytes(), 65_536, &[]), Some(bad));
+        assert_eq!(rt;
+            refusal(rt.alloc(), text.as_bytes(), 65_536, &[]),
+            Some(bad)
+        );
     }
     Ok(())
 }
@@ -170,6 +173,9 @@ fn long_lines(rt: HostRuntime) -> Result<(), Fail> {
 fn a_call_fails(rt: HostRuntime) {
     for call in [1, 2, 9] {
         let fault = LogRefusal::ReadFault;
-        assert_eq!(rt; refusal(rt.alloc(), LOG.as_bytes(), 100, &[call]), Some(fault));
+        assert_eq!(rt;
+            refusal(rt.alloc(), LOG.as_bytes(), 100, &[call]),
+            Some(fault)
+        );
     }
 }
