@@ -1,4 +1,5 @@
 mod AddressLists
+mod AuditedLines
 mod CaptureRecords
 mod CommandServers
 mod Digits
@@ -6,4 +7,5 @@ mod FrameVips
 mod LawfulLines
 mod PrintedLines
 mod Running
+mod Sorting
 mod Writing

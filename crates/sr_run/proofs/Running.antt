@@ -10,7 +10,7 @@ use Rattle.sr_run.specs.declared.command.Command.{Command}
 use Rattle.sr_run.specs.declared.command.Command.TheVariants.{One, Make}
 use Rattle.sr_run.specs.declared.status.CaptureRefusal.{CaptureRefusal}
 use Rattle.sr_run.specs.declared.status.Status.{Status}
-use Rattle.sr_run.specs.declared.status.Status.TheVariants.{Done, Usage, Capture, ReadFault, WriteFault, Memory}
+use Rattle.sr_run.specs.declared.status.Status.TheVariants.{Done, Usage, Script, Capture, ReadFault, WriteFault, Memory, Breach}
 use Rattle.sr_run.specs.Capture.{Keeps, header_refusal, records_behind, skips_from}
 use Rattle.sr_run.specs.Make.{Makes}
 use Rattle.sr_run.specs.One.{one_text}
@@ -44,19 +44,23 @@ answers_read vip servers xs left old new status captured format header keeps end
     by_status : (status : Status) → EndsPrinting status captured.ending (one_text servers captured.skips.items captured.packets.items) old new → Answers status (One vip servers) xs left old new
     by_status Done ends = (refusal ∙ ends.0, keeps.all ends.0, subst (λ t. Adds old new t) text ends.1)
     by_status Usage ends = absurd ends
+    by_status (Script refusal) ends = absurd ends
     by_status (Capture why) ends = (refusal ∙ ends.0, subst (λ t. Adds old new t) text ends.1)
     by_status ReadFault ends = absurd ends
     by_status WriteFault ends = subst (λ t. AddsFront old new t) text ends
     by_status Memory ends = absurd ends
+    by_status (Breach line clause) ends = absurd ends
 
 -- printing ends in none of the statuses of the words
 pub prints_a_command : (status : Status) (ending : Option CaptureRefusal) (text : List ℕ) (old new : Option (List ℕ)) → EndsPrinting status ending text old new → status ≡ Usage → ⊥
 prints_a_command Done ending text old new ends same = cc
 prints_a_command Usage ending text old new ends same = ends
+prints_a_command (Script refusal) ending text old new ends same = ends
 prints_a_command (Capture why) ending text old new ends same = cc
 prints_a_command ReadFault ending text old new ends same = ends
 prints_a_command WriteFault ending text old new ends same = cc
 prints_a_command Memory ending text old new ends same = ends
+prints_a_command (Breach line clause) ending text old new ends same = ends
 
 -- a capture that was made from a number, whatever there was to read
 pub answers_made : (number packets : ℕ) (xs : List ℕ) (left old new : Option (List ℕ)) (status : Status) → left ≡ Some xs → Makes status number packets old new
@@ -64,10 +68,12 @@ pub answers_made : (number packets : ℕ) (xs : List ℕ) (left old new : Option
 unfolding refusal_of printed
 answers_made number packets xs left old new Done same made = (refl, same, made)
 answers_made number packets xs left old new Usage same made = made
+answers_made number packets xs left old new (Script refusal) same made = absurd made
 answers_made number packets xs left old new (Capture why) same made = absurd made
 answers_made number packets xs left old new ReadFault same made = absurd made
 answers_made number packets xs left old new WriteFault same made = made
 answers_made number packets xs left old new Memory same made = made
+answers_made number packets xs left old new (Breach line clause) same made = absurd made
 
 -- the command that was read is the one that the words are
 pub answers_read_command : (number packets : ℕ) (read : Option Command) (c : Command) (xs : List ℕ) (left old new : Option (List ℕ)) (status : Status)

@@ -17,7 +17,7 @@ use Rattle.sr_run.specs.declared.command.Command.{Command}
 use Rattle.sr_run.specs.declared.command.Command.TheVariants.{One, Make}
 use Rattle.sr_run.specs.declared.status.CaptureRefusal.{CaptureRefusal}
 use Rattle.sr_run.specs.declared.status.Status.{Status}
-use Rattle.sr_run.specs.declared.status.Status.TheVariants.{Done, Usage, Capture, ReadFault, WriteFault, Memory}
+use Rattle.sr_run.specs.declared.status.Status.TheVariants.{Done, Usage, Script, Capture, ReadFault, WriteFault, Memory, Breach}
 use Rattle.sr_run.specs.Capture.{records_behind, ending_of, packets_from, skips_from, header_refusal}
 use Rattle.sr_run.specs.One.{one_lines, one_pools, one_setup, one_text}
 
@@ -89,19 +89,23 @@ left_by (Make number packets) bytes = bytes
 abbrev pub Answers : Status → Command → List ℕ → Option (List ℕ) → Option (List ℕ) → Option (List ℕ) → Type 0
 Answers Done c bytes left old new = (refusal_of c bytes ≡ None) × (left ≡ Some (left_by c bytes)) × Adds old new (printed c bytes)
 Answers Usage c bytes left old new = ⊥
+Answers (Script refusal) c bytes left old new = ⊥
 Answers (Capture why) c bytes left old new = (refusal_of c bytes ≡ Some why) × Adds old new (printed c bytes)
 Answers ReadFault c bytes left old new = Adds old new []
 Answers WriteFault c bytes left old new = AddsFront old new (printed c bytes)
 Answers Memory c bytes left old new = Adds old new []
+Answers (Breach line clause) c bytes left old new = ⊥
 
 -- after these statuses nothing was written
 abbrev pub WritesNothing : Status → Option (List ℕ) → Option (List ℕ) → Type 0
 WritesNothing Done old new = Unit {0}
 WritesNothing Usage old new = Adds old new []
+WritesNothing (Script refusal) old new = Adds old new []
 WritesNothing (Capture why) old new = Unit {0}
 WritesNothing ReadFault old new = Adds old new []
 WritesNothing WriteFault old new = Unit {0}
 WritesNothing Memory old new = Adds old new []
+WritesNothing (Breach line clause) old new = Adds old new []
 
 -- the status after printing, where the capture ended so
 abbrev pub finished : Put → Option CaptureRefusal → Status
@@ -113,7 +117,9 @@ finished put.All (Some why) = Capture why
 abbrev pub EndsPrinting : Status → Option CaptureRefusal → List ℕ → Option (List ℕ) → Option (List ℕ) → Type 0
 EndsPrinting Done ending text old new = (ending ≡ None) × Adds old new text
 EndsPrinting Usage ending text old new = ⊥
+EndsPrinting (Script refusal) ending text old new = ⊥
 EndsPrinting (Capture why) ending text old new = (ending ≡ Some why) × Adds old new text
 EndsPrinting ReadFault ending text old new = ⊥
 EndsPrinting WriteFault ending text old new = AddsFront old new text
 EndsPrinting Memory ending text old new = ⊥
+EndsPrinting (Breach line clause) ending text old new = ⊥

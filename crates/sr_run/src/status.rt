@@ -1,11 +1,14 @@
 ghost use Rattle.std.specs.Prelude.{◌≡◌, ◌+◌, ◌≤◌, ◌++◌, length};
+ghost use Rattle.std.specs.List.{flat_map};
 ghost use Rattle.std.specs.Fmt.{decimal};
 ghost use Rattle.sr_io.specs.Faults.{Rose};
 ghost use Rattle.sr_io.specs.Sink.{Puts};
 ghost use Rattle.sr_io.specs.declared.sink.Put.TheVariants as put;
-ghost use Rattle.sr_run.specs.Status.{code_of, status_text, capture_words};
+ghost use Rattle.sr_run.specs.Status.{code_of, status_text, capture_words, clause_word};
 
 use sr_io::{Put, Sink};
+use sr_law::Clause;
+use sr_script::ScriptRefusal;
 use sr_text::LineText;
 
 /// Why a capture was refused.
@@ -35,12 +38,14 @@ pub enum CaptureRefusal {
 }
 
 /// How a run ended.
-#[derive(Clone, Copy, Debug, PartialEq, Eq)]
+#[derive(Debug, Drop, PartialEq, Eq)]
 pub enum Status {
     /// All is done.
     Done,
     /// The words are no command.
     Usage,
+    /// The script was refused; nothing else was read.
+    Script(ScriptRefusal),
     /// The capture was refused; what was read before a refused record was run and printed.
     Capture(CaptureRefusal),
     /// The source or the shelf failed.
@@ -49,6 +54,13 @@ pub enum Status {
     WriteFault,
     /// No memory was found; nothing was printed.
     Memory,
+    /// An audited log is no text of the grammar, or isn't lawful.
+    Breach {
+        /// The line of the text, from 1; for `Final` one past the last.
+        line: u64,
+        /// What it breaks.
+        clause: Clause,
+    },
 }
 
 impl Status {
@@ -56,13 +68,15 @@ impl Status {
     pub fn code(&self) -> u8
         ensures { result ≡ code_of self.now }
     {
-        match *self {
+        match self {
             Status::Done => 0,
             Status::Usage => 1,
+            Status::Script(_) => 2,
             Status::Capture(_) => 3,
             Status::ReadFault => 4,
             Status::WriteFault => 5,
             Status::Memory => 6,
+            Status::Breach { .. } => 8,
         }
     }
 
@@ -73,16 +87,82 @@ impl Status {
         ensures count { K.faults sink.old ≤ K.faults sink.new }
         ensures failed { result ≡ put.Failed → Rose (K.faults sink.old) (K.faults sink.new) }
     {
-        match *self {
+        match self {
             Status::Done => sink.write(b""),
             Status::Usage => sink.write(
                 b"silkroad: usage: one VIP SERVERS, replay SCRIPT, audit SCRIPT, make N PACKETS, demo N, steps SCRIPT SEED\n",
             ),
-            Status::Capture(why) => capture_text(why, sink),
+            Status::Script(refusal) => script_text(refusal, sink),
+            Status::Capture(why) => capture_text(*why, sink),
             Status::ReadFault => sink.write(b"silkroad: read fault\n"),
             Status::WriteFault => sink.write(b"silkroad: write fault\n"),
             Status::Memory => sink.write(b"silkroad: no memory\n"),
+            Status::Breach { line, clause } => breach_text(*line, *clause, sink),
         }
+    }
+}
+
+// Appends the line that says why a script was refused, and where.
+#[tactic(auto, unfolding(crate::specs::Status::status_text))]
+fn script_text<K: Sink>(refusal: &ScriptRefusal, sink: &mut K) -> Put
+    ensures bytes { Puts result (K.taken sink.old) (K.taken sink.new) (status_text (Status.Script refusal.now)) }
+    ensures count { K.faults sink.old ≤ K.faults sink.new }
+    ensures failed { result ≡ put.Failed → Rose (K.faults sink.old) (K.faults sink.new) }
+{
+    let why = refusal.why.word().as_bytes();
+    let path = refusal.path.as_bytes();
+    if path.is_empty() {
+        write_parts(&[b"silkroad: script: ", why, b"\n"], sink)
+    } else {
+        write_parts(&[b"silkroad: script: ", why, b" ", path, b"\n"], sink)
+    }
+}
+
+// Appends these bytes, one after the other.
+fn write_parts<K: Sink>(parts: &[&[u8]], sink: &mut K) -> Put
+    ensures bytes { Puts result (K.taken sink.old) (K.taken sink.new) (flat_map (λ part. part.now) parts.now) }
+    ensures count { K.faults sink.old ≤ K.faults sink.new }
+    ensures failed { result ≡ put.Failed → Rose (K.faults sink.old) (K.faults sink.new) }
+{
+    for part in parts {
+        match sink.write(*part) {
+            Put::All => {}
+            Put::Failed => return Put::Failed,
+        }
+    }
+    Put::All
+}
+
+// Appends the line that says which line of a log breaks what.
+#[tactic(auto, unfolding(crate::specs::Status::status_text))]
+fn breach_text<K: Sink>(line: u64, clause: Clause, sink: &mut K) -> Put
+    ensures bytes { Puts result (K.taken sink.old) (K.taken sink.new) (status_text (Status.Breach line clause)) }
+    ensures count { K.faults sink.old ≤ K.faults sink.new }
+    ensures failed { result ≡ put.Failed → Rose (K.faults sink.old) (K.faults sink.new) }
+{
+    let mut text = LineText::new();
+    text.word(clause_word(clause));
+    text.word(b" breaks ");
+    text.number(line);
+    text.word(b"silkroad: audit: line ");
+    sink.write(text.bytes())
+}
+
+// The word for a clause.
+fn clause_word(clause: Clause) -> &'static [u8]
+    ensures word { result.now ≡ clause_word clause }
+    ensures length { length result.now ≤ 6 }
+{
+    match clause {
+        Clause::Text => b"text",
+        Clause::Order => b"order",
+        Clause::Server => b"server",
+        Clause::Same => b"same",
+        Clause::Newer => b"newer",
+        Clause::Number => b"number",
+        Clause::Cause => b"cause",
+        Clause::Retire => b"retire",
+        Clause::Final => b"final",
     }
 }
 
