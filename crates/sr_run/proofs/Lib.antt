@@ -5,6 +5,7 @@ mod CommandServers
 mod Digits
 mod FrameVips
 mod LawfulLines
+mod Parts
 mod PrintedLines
 mod Running
 mod Sorting

@@ -5,6 +5,7 @@ pub mod Make
 pub mod Numbering
 pub mod Numbers
 pub mod One
+pub mod Parting
 pub mod Run
 pub mod ScriptText
 pub mod Servers

@@ -13,6 +13,7 @@ mod make_capture;
 mod numbering;
 mod numbers;
 mod one;
+mod parting;
 mod print_log;
 mod script_text;
 mod servers;
