@@ -1,5 +1,5 @@
 -- What judging a log needs to know of pools and of what the auditor of lists names.
-use Rattle.std.proofs.Common.{◌≡◌, ℕ, ◌+◌, ◌≤◌, Bool, true, false, cond, List, [], ◌∷◌, length, reverse, Option, Some, None, refl, sym, ap, ◌∙◌, subst, arith}
+use Rattle.std.proofs.Common.{◌≡◌, ℕ, ◌+◌, ◌≤◌, Bool, true, false, cond, List, [], ◌∷◌, length, reverse, Option, Some, None, inl, inr, ◌⊎◌, refl, sym, ap, ◌∙◌, subst, arith}
 use Rattle.std.proofs.lemmas.List.{length-reverse}
 use Rattle.sr_base.specs.Limit.{limit_of}
 use Rattle.sr_base.specs.declared.change.Change.{Change}
@@ -24,14 +24,14 @@ fits_pools shape first changes servers fits = ap (λ n. limit_of shape n servers
 
 -- ---- a breach is at a line that is there, or one past the last
 
-IsWithin : ℕ → Option CheckRefusal → Type 0
+abbrev IsWithin : ℕ → Option CheckRefusal → Type 0
 IsWithin most None = Unit {0}
-IsWithin most (Some (Breach line clause)) = line ≤ most
+IsWithin most (Some (Breach line what)) = line ≤ most
 IsWithin most (Some Memory) = Unit {0}
 
 within_more : (most later : ℕ) (o : Option CheckRefusal) → most ≤ later → IsWithin most o → IsWithin later o
 within_more most later None le within = tt
-within_more most later (Some (Breach line clause)) le within = omega arith
+within_more most later (Some (Breach line what)) le within = omega arith
 within_more most later (Some Memory) le within = tt
 
 within_first : (most : ℕ) (a b : Option CheckRefusal) → IsWithin most a → IsWithin most b → IsWithin most (breach_first a b)
@@ -40,7 +40,7 @@ within_first most (Some breach) b first second = first
 
 within_at : (most : ℕ) (o : Option Clause) → IsWithin most (breach_at most o)
 within_at most None = tt
-within_at most (Some clause) = omega arith
+within_at most (Some what) = omega arith
 
 first_within : (setup : SetupView) (endings : List EndingPacket) (before : List Line) → IsWithin (length before) (first_broken setup endings before)
 unfolding first_broken
@@ -49,8 +49,8 @@ first_within setup endings (line ∷ before) =
     let e : length before + 1 ≡ length (line ∷ before) = omega arith in
     subst (λ n. IsWithin n (breach_first (first_broken setup endings before) (breach_at (length before + 1) (broken setup endings before line)))) e
     (within_first (length before + 1) (first_broken setup endings before) _
-      (within_more (length before) (length before + 1) (first_broken setup endings before) (omega arith) (first_within setup endings before))
-      (within_at (length before + 1) (broken setup endings before line)))
+    (within_more (length before) (length before + 1) (first_broken setup endings before) (omega arith) (first_within setup endings before))
+    (within_at (length before + 1) (broken setup endings before line)))
 
 final_within : (most : ℕ) (met : Bool) → IsWithin most (cond met None (Some (Breach most C.Final)))
 final_within most true = tt
@@ -62,9 +62,14 @@ breach_within setup lines =
     let size : length (reverse lines) ≡ length lines = length-reverse lines in
     let found = first_broken setup (endings_of (reverse lines)) (reverse lines) in
     within_first (length lines + 1) found _
-      (within_more (length (reverse lines)) (length lines + 1) found (omega arith) (first_within setup (endings_of (reverse lines)) (reverse lines)))
-      (final_within (length lines + 1) (meets_final setup (reverse lines)))
+    (within_more (length (reverse lines)) (length lines + 1) found (omega arith) (first_within setup (endings_of (reverse lines)) (reverse lines)))
+    (final_within (length lines + 1) (meets_final setup (reverse lines)))
 
 -- the line that is named is one of the list, or one past its last
 pub named_within : (setup : SetupView) (lines : List Line) (line : ℕ) (what : Clause) → breach_of setup lines ≡ Some (Breach line what) → line ≤ length lines + 1
 named_within setup lines line what e = subst (IsWithin (length lines + 1)) e (breach_within setup lines)
+
+-- the same of a refusal that names a line
+pub refusal_within : (setup : SetupView) (lines : List Line) (refusal : CheckRefusal) (line : ℕ) (what : Clause) → refusal ≡ Breach line what → (refusal ≡ Memory) ⊎ (breach_of setup lines ≡ Some refusal) → line ≤ length lines + 1
+refusal_within setup lines refusal line what is (inl none) = let bad : Memory ≡ Breach line what = sym none ∙ is in absurd cc
+refusal_within setup lines refusal line what is (inr found) = named_within setup lines line what (found ∙ ap Some is)

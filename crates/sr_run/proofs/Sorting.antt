@@ -48,9 +48,9 @@ rises_more low (x ∷ xs) rises none =
 first_is : (low x : ℕ) (xs : List ℕ) → Rises low (x ∷ xs) → Once low (x ∷ xs) → x ≡ low
 first_is low x xs rises once = elim (cases_lt low x) [
   | inl h ↦
-    let none : times low (x ∷ xs) ≡ 0 = count_other low x xs (λ e. absurd (omega arith)) ∙ none_below low x xs h rises.1 in
-    let one : times low (x ∷ xs) ≡ 1 = once low (omega arith) (omega arith) in
-    absurd (omega arith)
+      let none : times low (x ∷ xs) ≡ 0 = count_other low x xs (λ e. absurd (omega arith)) ∙ none_below low x xs h rises.1 in
+      let one : times low (x ∷ xs) ≡ 1 = once low (omega arith) (omega arith) in
+      absurd (omega arith)
   | inr h ↦ let le : low ≤ x = rises.0 in omega arith
 ]
 
@@ -83,8 +83,8 @@ range_once n low zero from to = absurd (omega arith)
 range_once n low (suc len) from to = elim (cases_lt low n) [
   | inl h ↦ count_other n low (range_with_len (low + 1) len) (λ e. absurd (omega arith)) ∙ range_once n (low + 1) len (omega arith) (omega arith)
   | inr h ↦
-    let e : n ≡ low = omega arith in
-    subst (λ k. times k (range_with_len low (suc len)) ≡ 1) (sym e) (count_same low (range_with_len (low + 1) len) ∙ ap (λ k. 1 + k) (none_in_range low (low + 1) len (omega arith)))
+      let e : n ≡ low = omega arith in
+      subst (λ k. times k (range_with_len low (suc len)) ≡ 1) (sym e) (count_same low (range_with_len (low + 1) len) ∙ ap (λ k. 1 + k) (none_in_range low (low + 1) len (omega arith)))
 ]
 
 -- ---- numbers that were sorted
@@ -109,8 +109,8 @@ numbering_from numbers sorted same e =
     record {
       begin = All-permutation (λ n. 1 ≤ n) sorted numbers (IsPermutation-sym numbers sorted same) (range_begins sorted e);
       once = λ n from to.
-        sym (sum_by-IsPermutation (λ x. cond (x == n) 1 0) numbers sorted same)
-        ∙ ap (times n) e ∙ range_once n 1 (length sorted) from (omega arith);
+          sym (sum_by-IsPermutation (λ x. cond (x == n) 1 0) numbers sorted same)
+          ∙ ap (times n) e ∙ range_once n 1 (length sorted) from (omega arith);
     }
 
 -- and only there

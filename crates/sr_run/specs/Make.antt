@@ -14,4 +14,4 @@ Makes (Capture why) number packets old new = ⊥
 Makes ReadFault number packets old new = ⊥
 Makes WriteFault number packets old new = AddsFront old new (capture_of number packets)
 Makes Memory number packets old new = Adds old new []
-Makes (Breach line clause) number packets old new = ⊥
+Makes (Breach line what) number packets old new = ⊥

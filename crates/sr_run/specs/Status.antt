@@ -32,7 +32,7 @@ capture_words LinkType rest = codes "link type" ++ rest
 -- where a script is at fault: nothing where the whole text is
 abbrev pub path_words : List ℕ → List ℕ
 path_words [] = 10 ∷ []
-path_words (byte ∷ path) = 32 ∷ (byte ∷ path) ++ (10 ∷ [])
+path_words (byte ∷ path) = (32 ∷ byte ∷ path) ++ (10 ∷ [])
 
 -- what a line breaks
 abbrev pub clause_word : Clause → List ℕ
@@ -50,7 +50,7 @@ clause_word clause.Final = codes "final"
 unfoldable pub status_text : Status → List ℕ
 status_text Done = []
 status_text Usage = codes "silkroad: usage: one VIP SERVERS, replay SCRIPT, audit SCRIPT, make N PACKETS, demo N, steps SCRIPT SEED\n"
-status_text (Script refusal) = codes "silkroad: script: " ++ (word_of refusal.why ++ path_words (string_bytes refusal.path))
+status_text (Script refusal) = (codes "silkroad: script: " ++ word_of refusal.why) ++ path_words (string_bytes refusal.path)
 status_text (Capture why) = codes "silkroad: capture: " ++ capture_words why (10 ∷ [])
 status_text ReadFault = codes "silkroad: read fault\n"
 status_text WriteFault = codes "silkroad: write fault\n"

@@ -20,6 +20,5 @@ mod servers;
 mod status;
 mod top;
 
-pub use command::Command;
 pub use status::{CaptureRefusal, Status};
 pub use top::run;

@@ -27,7 +27,10 @@ fn packet_of(line: &Line) -> Option<Packet>
 {
     match *line {
         Line::Packet {
-            number, key, kind, ..
+            number,
+            key,
+            kind,
+            ..
         } => Some(Packet { number, key, kind }),
         _ => None,
     }

@@ -40,8 +40,7 @@ pub(crate) fn fetch_script<F: Shelf>(alloc: Global, name: &str, shelf: &mut F) -
 
 // The script that a text is.
 fn parsed(alloc: Global, text: &[u8]) -> Fetched
-    requires { length text.now ≤ 1048576 }
-    ensures text { Fetches result (Some text.now) }
+    ensures text { length text.now ≤ 1048576 → Fetches result (Some text.now) }
     ensures ready { IsReady result }
     ensures sound { result ≢ fetched.ReadFault }
 {

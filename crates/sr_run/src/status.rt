@@ -1,10 +1,9 @@
 ghost use Rattle.std.specs.Prelude.{◌≡◌, ◌+◌, ◌≤◌, ◌++◌, length};
-ghost use Rattle.std.specs.List.{flat_map};
 ghost use Rattle.std.specs.Fmt.{decimal};
 ghost use Rattle.sr_io.specs.Faults.{Rose};
 ghost use Rattle.sr_io.specs.Sink.{Puts};
 ghost use Rattle.sr_io.specs.declared.sink.Put.TheVariants as put;
-ghost use Rattle.sr_run.specs.Status.{code_of, status_text, capture_words, clause_word};
+ghost use Rattle.sr_run.specs.Status.{code_of, status_text, capture_words, clause_word, path_words};
 
 use sr_io::{Put, Sink};
 use sr_law::Clause;
@@ -103,34 +102,42 @@ impl Status {
 }
 
 // Appends the line that says why a script was refused, and where.
-#[tactic(auto, unfolding(crate::specs::Status::status_text))]
 fn script_text<K: Sink>(refusal: &ScriptRefusal, sink: &mut K) -> Put
     ensures bytes { Puts result (K.taken sink.old) (K.taken sink.new) (status_text (Status.Script refusal.now)) }
     ensures count { K.faults sink.old ≤ K.faults sink.new }
     ensures failed { result ≡ put.Failed → Rose (K.faults sink.old) (K.faults sink.new) }
 {
-    let why = refusal.why.word().as_bytes();
-    let path = refusal.path.as_bytes();
-    if path.is_empty() {
-        write_parts(&[b"silkroad: script: ", why, b"\n"], sink)
-    } else {
-        write_parts(&[b"silkroad: script: ", why, b" ", path, b"\n"], sink)
+    match write_both(b"silkroad: script: ", refusal.why.word().as_bytes(), sink) {
+        Put::All => path_text(refusal.path.as_bytes(), sink),
+        Put::Failed => Put::Failed,
     }
 }
 
-// Appends these bytes, one after the other.
-fn write_parts<K: Sink>(parts: &[&[u8]], sink: &mut K) -> Put
-    ensures bytes { Puts result (K.taken sink.old) (K.taken sink.new) (flat_map (λ part. part.now) parts.now) }
+// Appends where a script is at fault, and the line's end.
+fn path_text<K: Sink>(path: &[u8], sink: &mut K) -> Put
+    ensures bytes { Puts result (K.taken sink.old) (K.taken sink.new) (path_words path.now) }
     ensures count { K.faults sink.old ≤ K.faults sink.new }
     ensures failed { result ≡ put.Failed → Rose (K.faults sink.old) (K.faults sink.new) }
 {
-    for part in parts {
-        match sink.write(*part) {
-            Put::All => {}
-            Put::Failed => return Put::Failed,
-        }
+    match path {
+        [] => sink.write(b"\n"),
+        _ => match write_both(b" ", path, sink) {
+            Put::All => sink.write(b"\n"),
+            Put::Failed => Put::Failed,
+        },
     }
-    Put::All
+}
+
+// Appends these bytes, and then those.
+fn write_both<K: Sink>(first: &[u8], second: &[u8], sink: &mut K) -> Put
+    ensures bytes { Puts result (K.taken sink.old) (K.taken sink.new) (first.now ++ second.now) }
+    ensures count { K.faults sink.old ≤ K.faults sink.new }
+    ensures failed { result ≡ put.Failed → Rose (K.faults sink.old) (K.faults sink.new) }
+{
+    match sink.write(first) {
+        Put::All => sink.write(second),
+        Put::Failed => Put::Failed,
+    }
 }
 
 // Appends the line that says which line of a log breaks what.
