@@ -2,13 +2,22 @@
 //! together in a buffer on the stack and goes to the sink in one write.
 #![tactic(auto)]
 
+mod adding;
+mod field_fronts;
 mod fields;
+mod line_at;
+mod line_fronts;
 mod line_text;
 mod log;
 mod log_refusal;
+mod name;
+mod numbers;
 mod printing;
 mod put;
 mod reading;
+mod refill;
+mod window;
+mod word;
 
 pub use fields::put_key;
 pub use line_text::LineText;
