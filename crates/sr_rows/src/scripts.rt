@@ -28,6 +28,10 @@ const REFUSALS: [(&str, &str, &[u8]); 4] = [
     ),
 ];
 
+const NOT_TOML: &[u8] = b"silkroad: script: not-toml\n";
+
+const TOO_LONG: &[u8] = b"silkroad: script: text-too-long\n";
+
 // The scene with one text put in the place of another.
 fn scene_with(alloc: Global, old: &str, new: &str) -> Result<String, AllocError> {
     match SCENE.split_once(old) {
@@ -58,7 +62,7 @@ fn refused(rt: HostRuntime) -> Result<(), Fail> {
 fn no_toml(rt: HostRuntime) -> Result<(), Fail> {
     let played = judged(&rt, rt.alloc(), b"=", FIRST)?;
     let said = said(rt.alloc(), &played.status)?;
-    assert_eq!(rt; said.as_slice(), b"silkroad: script: not-toml\n");
+    assert_eq!(rt; said.as_slice(), NOT_TOML);
     Ok(())
 }
 
@@ -67,6 +71,6 @@ fn too_long(rt: HostRuntime) -> Result<(), Fail> {
     let script = vec![in rt.alloc(); b'\n'; 1_048_577]?;
     let played = judged(&rt, rt.alloc(), &script, FIRST)?;
     let said = said(rt.alloc(), &played.status)?;
-    assert_eq!(rt; said.as_slice(), b"silkroad: script: text-too-long\n");
+    assert_eq!(rt; said.as_slice(), TOO_LONG);
     Ok(())
 }
