@@ -61,13 +61,15 @@ pub digits_on_takes : (most n : ℕ) (bytes : List ℕ) (x : ℕ × List ℕ) �
 digits_on_takes most n [] x h e = record { ds = []; digits = tt; at = cc; value = cc; within = let v : x.0 ≡ n = cc in omega arith }
 digits_on_takes most n (byte ∷ bytes) x h e =
     elim (chosen (is_digit byte) _ _ _ e) [
-      inl digit ↦ elim (chosen (leb (10 * n + (byte - 48)) most) (digits_on most (10 * n + (byte - 48)) bytes) None (Some x) digit.1) [
-        inl fits ↦
-          let on = digits_on_takes most (10 * n + (byte - 48)) bytes x (leb-true _ _ fits.0) fits.1 in
-          let d = digit_in byte digit.0 in
-          record { ds = byte ∷ on.ds; digits = (d.0, d.1, on.digits); at = ap (λ (l : List ℕ). byte ∷ l) on.at; value = on.value; within = on.within }
-      | inr past ↦ absurd (let z = past.1 in cc) ]
-    | inr other ↦ let z = other.1 in record { ds = []; digits = tt; at = cc; value = cc; within = let v : x.0 ≡ n = cc in omega arith } ]
+      | inl digit ↦ elim (chosen (leb (10 * n + (byte - 48)) most) (digits_on most (10 * n + (byte - 48)) bytes) None (Some x) digit.1) [
+        | inl fits ↦
+            let on = digits_on_takes most (10 * n + (byte - 48)) bytes x (leb-true _ _ fits.0) fits.1 in
+            let d = digit_in byte digit.0 in
+            record { ds = byte ∷ on.ds; digits = (d.0, d.1, on.digits); at = ap (λ (l : List ℕ). byte ∷ l) on.at; value = on.value; within = on.within }
+        | inr past ↦ absurd (let z = past.1 in cc)
+      ]
+      | inr other ↦ let z = other.1 in record { ds = []; digits = tt; at = cc; value = cc; within = let v : x.0 ≡ n = cc in omega arith }
+    ]
 
 pub either_way : (b : Bool) → (b ≡ true) ⊎ (b ≡ false)
 either_way true = inl refl
@@ -93,21 +95,24 @@ pub number_of_digits : (most : ℕ) (ds : List ℕ) (e : ℕ) (rest : List ℕ) 
 number_of_digits most [] e rest d some lead h stop = absurd (omega arith)
 number_of_digits most (c ∷ []) e rest d some lead h stop =
     elim (either_way (c == 48)) [
-      inl is ↦ let f : c ≡ 48 = eqb-true _ _ is in
-        ap (λ k. number_front most (k ∷ (e ∷ rest))) f ∙ number_zero most e rest ∙ ap (λ v. Some (v, e ∷ rest)) (let z : 0 ≡ 10 * 0 + (c - 48) = omega arith in z)
-    | inr other ↦ number_on most c [] e rest d other (omega (arith, from_none c [])) stop ∙ ap (λ v. Some (v, e ∷ rest)) (sym (from_none c [])) ]
+      | inl is ↦ let f : c ≡ 48 = eqb-true _ _ is in
+          ap (λ k. number_front most (k ∷ (e ∷ rest))) f ∙ number_zero most e rest ∙ ap (λ v. Some (v, e ∷ rest)) (let z : 0 ≡ 10 * 0 + (c - 48) = omega arith in z)
+      | inr other ↦ number_on most c [] e rest d other (omega (arith, from_none c [])) stop ∙ ap (λ v. Some (v, e ∷ rest)) (sym (from_none c []))
+    ]
 number_of_digits most (c ∷ x ∷ cs) e rest d some lead h stop =
     elim (either_way (c == 48)) [
-      inl is ↦ let f : c ≡ 48 = eqb-true _ _ is in let l = lead f in absurd (omega arith)
-    | inr other ↦ number_on most c (x ∷ cs) e rest d other (omega (arith, from_none c (x ∷ cs))) stop ∙ ap (λ v. Some (v, e ∷ rest)) (sym (from_none c (x ∷ cs))) ]
+      | inl is ↦ let f : c ≡ 48 = eqb-true _ _ is in let l = lead f in absurd (omega arith)
+      | inr other ↦ number_on most c (x ∷ cs) e rest d other (omega (arith, from_none c (x ∷ cs))) stop ∙ ap (λ v. Some (v, e ∷ rest)) (sym (from_none c (x ∷ cs)))
+    ]
 
 pub number_there : (most n e : ℕ) (rest : List ℕ) → n ≤ most → most < 2 ^ 64 → is_digit e ≡ false → number_front most (decimal n ++ e ∷ rest) ≡ Some (n, e ∷ rest)
 number_there most n e rest h small stop =
     let within : n < 2 ^ 64 = omega arith in
     let value = digits_value-decimal own n within in
     let lead : get_or (decimal n) 0 0 ≡ 48 → length (decimal n) ≡ 1 = λ f. elim (zero_or n) [
-        inl z ↦ ap (λ m. length (decimal m)) z ∙ ap length (decimal_digit 0 (omega arith))
-      | inr p ↦ let first = first_decimal n p within in absurd (omega arith) ] in
+      | inl z ↦ ap (λ m. length (decimal m)) z ∙ ap length (decimal_digit 0 (omega arith))
+      | inr p ↦ let first = first_decimal n p within in absurd (omega arith)
+    ] in
     number_of_digits most (decimal n) e rest (digits_decimal own n within) (decimal_nonempty n within) lead (omega arith) stop
     ∙ ap (λ (m : ℕ). Some (m, e ∷ rest)) value
 
@@ -132,12 +137,15 @@ unfolding number_front
 number_takes most [] x small e = absurd (cc)
 number_takes most (byte ∷ bytes) x small e =
     elim (chosen (byte == 48) _ _ _ e) [
-      inl first ↦ zero_takes most byte bytes x (eqb-true _ _ first.0) first.1
-    | inr other ↦ elim (chosen (is_digit byte) (cond (leb (byte - 48) most) (digits_on most (byte - 48) bytes) None) None (Some x) other.1) [
-        inl digit ↦ elim (chosen (leb (byte - 48) most) (digits_on most (byte - 48) bytes) None (Some x) digit.1) [
-          inl fits ↦ digits_take most byte bytes x small (digit_in byte digit.0) other.0 (digits_on_takes most (byte - 48) bytes x (leb-true _ _ fits.0) fits.1)
-        | inr past ↦ absurd (let z = past.1 in cc) ]
-      | inr none ↦ absurd (let z = none.1 in cc) ] ]
+      | inl first ↦ zero_takes most byte bytes x (eqb-true _ _ first.0) first.1
+      | inr other ↦ elim (chosen (is_digit byte) (cond (leb (byte - 48) most) (digits_on most (byte - 48) bytes) None) None (Some x) other.1) [
+        | inl digit ↦ elim (chosen (leb (byte - 48) most) (digits_on most (byte - 48) bytes) None (Some x) digit.1) [
+          | inl fits ↦ digits_take most byte bytes x small (digit_in byte digit.0) other.0 (digits_on_takes most (byte - 48) bytes x (leb-true _ _ fits.0) fits.1)
+          | inr past ↦ absurd (let z = past.1 in cc)
+        ]
+        | inr none ↦ absurd (let z = none.1 in cc)
+      ]
+    ]
 
 pub field_there : (most e n : ℕ) (rest : List ℕ) → n ≤ most → most < 2 ^ 64 → is_digit e ≡ false → field_front most e (decimal n ++ e ∷ rest) ≡ Some (n, rest)
 unfolding field_front

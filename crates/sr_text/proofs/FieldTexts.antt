@@ -115,9 +115,10 @@ slot_takes bytes x h =
     field_then 255 10 r' _ x (omega arith) on' (λ cell r'' at'' fits'' on''.
     let v : Slot way bucket cell ≡ x.0 = cc in
     let t : r'' ≡ x.1 = cc in
-    let P : Place → Type 0 = IsPlace in
-    (ap (λ (ys : List ℕ). 119 ∷ ys) (at ∙ ap (λ (ys : List ℕ). decimal way ++ 98 ∷ ys) (at' ∙ ap (λ (ys : List ℕ). decimal bucket ++ 99 ∷ ys) at'')) ∙ ap (λ (ys : List ℕ). place_text (Slot way bucket cell) (10 ∷ ys)) t ∙ ap (λ k. place_text k (10 ∷ x.1)) v,
-     subst P v (omega arith, omega arith, omega arith)))))
+    let P : Place → Type 0 = IsPlace in (
+      ap (λ (ys : List ℕ). 119 ∷ ys) (at ∙ ap (λ (ys : List ℕ). decimal way ++ 98 ∷ ys) (at' ∙ ap (λ (ys : List ℕ). decimal bucket ++ 99 ∷ ys) at'')) ∙ ap (λ (ys : List ℕ). place_text (Slot way bucket cell) (10 ∷ ys)) t ∙ ap (λ k. place_text k (10 ∷ x.1)) v,
+      subst P v (omega arith, omega arith, omega arith),
+    ))))
 
 pub row_takes : (bytes : List ℕ) (x : Place × List ℕ) → row_front bytes ≡ Some x → (102 ∷ bytes ≡ place_text x.0 (10 ∷ x.1)) × IsPlace x.0
 unfolding row_front
@@ -125,9 +126,10 @@ row_takes bytes x h =
     field_then 4294967295 10 bytes _ x (omega arith) h (λ row r at fits on.
     let v : Row row ≡ x.0 = cc in
     let t : r ≡ x.1 = cc in
-    let P : Place → Type 0 = IsPlace in
-    (ap (λ (ys : List ℕ). 102 ∷ ys) at ∙ ap (λ (ys : List ℕ). place_text (Row row) (10 ∷ ys)) t ∙ ap (λ k. place_text k (10 ∷ x.1)) v,
-     subst P v (omega arith)))
+    let P : Place → Type 0 = IsPlace in (
+      ap (λ (ys : List ℕ). 102 ∷ ys) at ∙ ap (λ (ys : List ℕ). place_text (Row row) (10 ∷ ys)) t ∙ ap (λ k. place_text k (10 ∷ x.1)) v,
+      subst P v (omega arith),
+    ))
 
 pub place_takes : (bytes : List ℕ) (x : Place × List ℕ) → place_front bytes ≡ Some x → (bytes ≡ place_text x.0 (10 ∷ x.1)) × IsPlace x.0
 unfolding place_front

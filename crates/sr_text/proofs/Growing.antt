@@ -47,11 +47,15 @@ adds_plain added.Line old mid new ss ts ls ms t same skips none =
       numbers = λ log. subst (λ (l : List (ℕ × Skip)). IsLog l ms) (sym skips) (subst (λ (l : List Line). IsLog ss l) (sym t.list) (with_line ss ls t.one t.within log));
       count = omega (arith, length-append ls (t.one ∷ []));
     }
-adds_plain added.Nothing old mid new ss ts ls ms t same skips none =
-    (λ g. elim g [
-        inl n ↦ t.0 (subst (λ (w : WindowView). LineNext w.unread) (sym same) n)
-      | inr p ↦ none p.0 p.1 ],
-     t.1 ∙ same, skips, t.2)
+adds_plain added.Nothing old mid new ss ts ls ms t same skips none = (
+  λ g. elim g [
+    | inl n ↦ t.0 (subst (λ (w : WindowView). LineNext w.unread) (sym same) n)
+    | inr p ↦ none p.0 p.1
+  ],
+  t.1 ∙ same,
+  skips,
+  t.2,
+)
 adds_plain added.Memory old mid new ss ts ls ms t same skips none = tt
 
 -- what is next in all the bytes that are to come is next in a full window
@@ -73,8 +77,9 @@ full_skip unread rest h n =
 pub full_goes_on : (ls : List Line) (w : WindowView) (left : Option (List ℕ)) (bytes : List ℕ) → IsFull w → Pending w left bytes → GoesOn ls bytes → GoesOn ls w.unread
 full_goes_on ls w left bytes (inl long) p g =
     elim (subst (GoesOn ls) p.whole g) [
-      inl n ↦ inl (full_line w.unread p.rest long n)
-    | inr n ↦ inr (n.0, full_skip w.unread p.rest long n.1) ]
+      | inl n ↦ inl (full_line w.unread p.rest long n)
+      | inr n ↦ inr (n.0, full_skip w.unread p.rest long n.1)
+    ]
 full_goes_on ls w left bytes (inr over) p g =
     subst (GoesOn ls) (p.whole ∙ ap (λ (ys : List ℕ). w.unread ++ ys) (p.none over) ∙ append-nil w.unread) g
 
@@ -120,26 +125,36 @@ pub bad_here : (number : ℕ) (ss ts : List (ℕ × Skip)) (ls ms : List Line) (
 bad_here number ss ts ls ms bytes log next within es el s =
     let a = ap (λ (l : List (ℕ × Skip)). length l) es in
     let b = ap (λ (l : List Line). length l) el in
-    inr (ts, ms, s.rest, record {
-      numbers = subst (λ (l : List (ℕ × Skip)). IsLog l ms) (sym es) (subst (λ (l : List Line). IsLog ss l) (sym el) log);
-      front = s.text;
-      more = s.more;
-      next = omega arith;
-      within = omega arith;
-      outside = inl s.outside;
-    })
+    inr (
+      ts,
+      ms,
+      s.rest,
+      record {
+        numbers = subst (λ (l : List (ℕ × Skip)). IsLog l ms) (sym es) (subst (λ (l : List Line). IsLog ss l) (sym el) log);
+        front = s.text;
+        more = s.more;
+        next = omega arith;
+        within = omega arith;
+        outside = inl s.outside;
+      },
+    )
 
 -- the line after the last that a log may have
 pub past_here : (ss : List (ℕ × Skip)) (ls : List Line) (w : WindowView) (left : Option (List ℕ)) (bytes : List ℕ) → IsLog ss ls → line_count ss ls ≡ 33554432 → 0 < length w.unread → (r : Reached ss ls w left bytes) → IsFirstBad 33554433 bytes
 past_here ss ls w left bytes log count some r =
-    inr (ss, ls, r.rest, record {
-      numbers = log;
-      front = r.text;
-      more = not_ended w left r.rest some r.pending;
-      next = omega arith;
-      within = omega arith;
-      outside = inr count;
-    })
+    inr (
+      ss,
+      ls,
+      r.rest,
+      record {
+        numbers = log;
+        front = r.text;
+        more = not_ended w left r.rest some r.pending;
+        next = omega arith;
+        within = omega arith;
+        outside = inr count;
+      },
+    )
 
 -- the head
 pub no_head : (w : WindowView) (left : Option (List ℕ)) (bytes : List ℕ) → IsFull w → None ≡ after_word head_text w.unread → Pending w left bytes → (rest : List ℕ) → bytes ≡ head_text ++ rest → ⊥
@@ -158,10 +173,13 @@ pub head_here : (w new : WindowView) (left : Option (List ℕ)) (bytes rest : Li
 head_here w new left bytes rest some is p =
     let at = after_word_takes head_text w.unread rest (sym some) in
     let tail = ap (drop 11) at in
-    let unread : new.unread ≡ rest = ap (λ (z : WindowView). z.unread) is ∙ tail in
-    (rest ++ p.rest,
-     (p.whole ∙ ap (λ (ys : List ℕ). ys ++ p.rest) at,
-      record { rest = p.rest; told = p.told; whole = ap (λ (ys : List ℕ). ys ++ p.rest) (sym unread); none = λ over. p.none (sym (ap (λ (z : WindowView). z.over) is) ∙ over) }))
+    let unread : new.unread ≡ rest = ap (λ (z : WindowView). z.unread) is ∙ tail in (
+      rest ++ p.rest,
+      (
+        p.whole ∙ ap (λ (ys : List ℕ). ys ++ p.rest) at,
+        record { rest = p.rest; told = p.told; whole = ap (λ (ys : List ℕ). ys ++ p.rest) (sym unread); none = λ over. p.none (sym (ap (λ (z : WindowView). z.over) is) ∙ over) },
+      ),
+    )
 
 -- a new window
 pub new_pending : (w : WindowView) (left : Option (List ℕ)) (bytes : List ℕ) → w ≡ record { unread = []; over = false } → left ≡ Some bytes → Pending w left bytes

@@ -86,8 +86,8 @@ packet_takes bytes x h =
     let at6 = v.0 in
     let text : bytes ≡ field number (field entered (field out (field pipe (key_text key.0 (32 ∷ kind_text kind.0 (32 ∷ verdict_text verdict.0 (10 ∷ verdict.1))))))) = cc in
     ends (codes "packet ") bytes verdict.1 (Packet number entered out pipe key.0 kind.0 verdict.0) x (cc)
-      (ap (λ (ys : List ℕ). codes "packet " ++ ys) text ∙ sym (packet_append number entered out pipe key.0 kind.0 verdict.0 verdict.1))
-      (omega arith, omega arith, omega arith, omega arith, k.1, v.1))))))))
+    (ap (λ (ys : List ℕ). codes "packet " ++ ys) text ∙ sym (packet_append number entered out pipe key.0 kind.0 verdict.0 verdict.1))
+    (omega arith, omega arith, omega arith, omega arith, k.1, v.1))))))))
 
 -- answers
 pub answer_append : (out pipe nth : ℕ) (key : KeyView) (verdict : Verdict) (more : List ℕ) → line_text (Answer out pipe nth key verdict) ++ more
@@ -120,8 +120,8 @@ answer_takes bytes x h =
     let at4 = v.0 in
     let text : bytes ≡ field out (field pipe (field nth (key_text key.0 (32 ∷ verdict_text verdict.0 (10 ∷ verdict.1))))) = cc in
     ends (codes "answer ") bytes verdict.1 (Answer out pipe nth key.0 verdict.0) x (cc)
-      (ap (λ (ys : List ℕ). codes "answer " ++ ys) text ∙ sym (answer_append out pipe nth key.0 verdict.0 verdict.1))
-      (omega arith, omega arith, omega arith, k.1, v.1))))))
+    (ap (λ (ys : List ℕ). codes "answer " ++ ys) text ∙ sym (answer_append out pipe nth key.0 verdict.0 verdict.1))
+    (omega arith, omega arith, omega arith, k.1, v.1))))))
 
 -- versions that name pools
 pub give_append : (out vip version pool : ℕ) (more : List ℕ) → line_text (Given out vip version pool) ++ more
@@ -148,8 +148,8 @@ give_takes bytes x h =
     field_then 18446744073709551615 10 r2 _ x (omega arith) on2 (λ pool r3 at3 fits3 on3.
     let text : bytes ≡ field out (field vip (field version (decimal pool ++ 10 ∷ r3))) = cc in
     ends (codes "give ") bytes r3 (Given out vip version pool) x (cc)
-      (ap (λ (ys : List ℕ). codes "give " ++ ys) text ∙ sym (give_append out vip version pool r3))
-      (omega arith, omega arith, omega arith, omega arith)))))
+    (ap (λ (ys : List ℕ). codes "give " ++ ys) text ∙ sym (give_append out vip version pool r3))
+    (omega arith, omega arith, omega arith, omega arith)))))
 
 -- switches
 pub switch_append : (out vip pool : ℕ) (more : List ℕ) → line_text (Switched out vip pool) ++ more ≡ codes "switch " ++ field out (field vip (decimal pool ++ 10 ∷ more))
@@ -172,8 +172,8 @@ switch_takes bytes x h =
     field_then 18446744073709551615 10 r1 _ x (omega arith) on1 (λ pool r2 at2 fits2 on2.
     let text : bytes ≡ field out (field vip (decimal pool ++ 10 ∷ r2)) = cc in
     ends (codes "switch ") bytes r2 (Switched out vip pool) x (cc)
-      (ap (λ (ys : List ℕ). codes "switch " ++ ys) text ∙ sym (switch_append out vip pool r2))
-      (omega arith, omega arith, omega arith))))
+    (ap (λ (ys : List ℕ). codes "switch " ++ ys) text ∙ sym (switch_append out vip pool r2))
+    (omega arith, omega arith, omega arith))))
 
 -- sweeps
 pub sweep_append : (number from to at_ms : ℕ) (more : List ℕ) → line_text (Swept number from to at_ms) ++ more
@@ -200,8 +200,8 @@ sweep_takes bytes x h =
     field_then 18446744073709551615 10 r2 _ x (omega arith) on2 (λ at_ms r3 at3 fits3 on3.
     let text : bytes ≡ field number (field from (field to (decimal at_ms ++ 10 ∷ r3))) = cc in
     ends (codes "sweep ") bytes r3 (Swept number from to at_ms) x (cc)
-      (ap (λ (ys : List ℕ). codes "sweep " ++ ys) text ∙ sym (sweep_append number from to at_ms r3))
-      (omega arith, omega arith, omega arith, omega arith)))))
+    (ap (λ (ys : List ℕ). codes "sweep " ++ ys) text ∙ sym (sweep_append number from to at_ms r3))
+    (omega arith, omega arith, omega arith, omega arith)))))
 
 -- connections that are over
 pub retire_append : (out : ℕ) (key : KeyView) (more : List ℕ) → line_text (Retired out key) ++ more ≡ codes "retire " ++ field out (key_text key (10 ∷ more))
@@ -224,8 +224,8 @@ retire_takes bytes x h =
     let at1 = k.0 in
     let text : bytes ≡ field out (key_text key.0 (10 ∷ key.1)) = cc in
     ends (codes "retire ") bytes key.1 (Retired out key.0) x (cc)
-      (ap (λ (ys : List ℕ). codes "retire " ++ ys) text ∙ sym (retire_append out key.0 key.1))
-      (omega arith, k.1)))
+    (ap (λ (ys : List ℕ). codes "retire " ++ ys) text ∙ sym (retire_append out key.0 key.1))
+    (omega arith, k.1)))
 
 -- lines of a tick and a number
 pub numbered_there : (most out number : ℕ) (more : List ℕ) → out < 2 ^ 64 → number ≤ most → most < 2 ^ 64 → numbered_front most (field out (decimal number ++ 10 ∷ more)) ≡ Some (out, number, more)

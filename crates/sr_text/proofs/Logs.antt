@@ -71,8 +71,9 @@ lines_ahead (l ∷ ls) (k ∷ ks) rest f w e =
     let first : l ≡ k = ap (λ (z : Line × List ℕ). z.0) both in
     let tail : flat_map line_text ks ≡ flat_map line_text ls ++ rest = sym (ap (λ (z : Line × List ℕ). z.1) both) in
     elim (lines_ahead ls ks rest f.1 w.1 tail) [
-      inl h ↦ inl (h.0, let t = h.1 in cc)
-    | inr h ↦ inr (h.0, let t = h.1 in omega arith) ]
+      | inl h ↦ inl (h.0, let t = h.1 in cc)
+      | inr h ↦ inr (h.0, let t = h.1 in omega arith)
+    ]
 
 abbrev pub body : List (ℕ × Skip) → List Line → List ℕ
 body skips lines = flat_map skip_text skips ++ flat_map line_text lines
@@ -91,13 +92,14 @@ pub log_ahead : (skips all_skips : List (ℕ × Skip)) (lines all_lines : List L
     → AllByRecursion IsLine lines → AllByRecursion IsLine all_lines → body all_skips all_lines ≡ body skips lines ++ rest → Ahead skips lines all_skips all_lines rest
 log_ahead [] [] lines all_lines rest f w fl wl e =
     elim (lines_ahead lines all_lines rest fl wl e) [
-      inl h ↦ inl (h.0, refl, h.1)
-    | inr h ↦ inr (inl h.0, let t = h.1 in omega arith) ]
+      | inl h ↦ inl (h.0, refl, h.1)
+      | inr h ↦ inr (inl h.0, let t = h.1 in omega arith)
+    ]
 log_ahead [] (s ∷ ss) [] all_lines rest f w fl wl e =
     inr (inr (refl, (s, body ss all_lines, (w.0, sym e ∙ append_assoc (skip_text s) (flat_map skip_text ss) (flat_map line_text all_lines)))), omega arith)
 log_ahead [] (s ∷ ss) (l ∷ ls) all_lines rest f w fl wl e =
     absurd (not_both s l (body ss all_lines) (flat_map line_text ls ++ rest) fl.0
-      (sym (append_assoc (skip_text s) (flat_map skip_text ss) (flat_map line_text all_lines)) ∙ e ∙ append_assoc (line_text l) (flat_map line_text ls) rest))
+    (sym (append_assoc (skip_text s) (flat_map skip_text ss) (flat_map line_text all_lines)) ∙ e ∙ append_assoc (line_text l) (flat_map line_text ls) rest))
 log_ahead (s ∷ ss) [] lines [] rest f w fl wl e =
     let there = skip_text_there s (flat_map skip_text ss ++ (flat_map line_text lines ++ rest)) f.0 in
     let shape : body (s ∷ ss) lines ++ rest ≡ skip_text s ++ (flat_map skip_text ss ++ (flat_map line_text lines ++ rest)) = simp append_assoc in
@@ -111,8 +113,9 @@ log_ahead (s ∷ ss) (t ∷ ts) lines all_lines rest f w fl wl e =
     let shape : body (s ∷ ss) lines ++ rest ≡ skip_text s ++ (body ss lines ++ rest) = simp append_assoc in
     let first = first_skip t (body ts all_lines) (body ss lines ++ rest) s w.0 f.0 (sym (append_assoc (skip_text t) (flat_map skip_text ts) (flat_map line_text all_lines)) ∙ e ∙ shape) in
     elim (log_ahead ss ts lines all_lines rest f.1 w.1 fl wl first.1) [
-      inl h ↦ inl (h.0, (let a = h.1 in let b = first.0 in cc), h.2)
-    | inr h ↦ inr (h.0, let t' = h.1 in omega arith) ]
+      | inl h ↦ inl (h.0, (let a = h.1 in let b = first.0 in cc), h.2)
+      | inr h ↦ inr (h.0, let t' = h.1 in omega arith)
+    ]
 
 -- the bytes behind the head of a text
 pub behind_head : (skips all_skips : List (ℕ × Skip)) (lines all_lines : List Line) (rest : List ℕ) → log_text all_skips all_lines ≡ log_text skips lines ++ rest → body all_skips all_lines ≡ body skips lines ++ rest
@@ -122,9 +125,9 @@ behind_head skips all_skips lines all_lines rest e = append_cancel_left head_tex
 pub text_ahead : (skips all_skips : List (ℕ × Skip)) (lines all_lines : List Line) (rest : List ℕ) → IsLog skips lines → IsLog all_skips all_lines → log_text all_skips all_lines ≡ log_text skips lines ++ rest → Ahead skips lines all_skips all_lines rest
 text_ahead skips all_skips lines all_lines rest f w e =
     log_ahead skips all_skips lines all_lines rest
-      (recursion_from_All IsSkipped skips f.each_skip) (recursion_from_All IsSkipped all_skips w.each_skip)
-      (recursion_from_All IsLine lines f.each_line) (recursion_from_All IsLine all_lines w.each_line)
-      (behind_head skips all_skips lines all_lines rest e)
+    (recursion_from_All IsSkipped skips f.each_skip) (recursion_from_All IsSkipped all_skips w.each_skip)
+    (recursion_from_All IsLine lines f.each_line) (recursion_from_All IsLine all_lines w.each_line)
+    (behind_head skips all_skips lines all_lines rest e)
 
 -- nothing comes next where no byte is left
 pub nothing_next : (lines : List Line) → GoesOn lines [] → ⊥
@@ -135,8 +138,9 @@ nothing_next lines (inr n) = let there = skip_text_there n.1.0 n.1.1 n.1.2.0 in 
 pub one_log : (skips all_skips : List (ℕ × Skip)) (lines all_lines : List Line) → IsLog skips lines → IsLog all_skips all_lines → log_text all_skips all_lines ≡ log_text skips lines → (skips ≡ all_skips) × (lines ≡ all_lines)
 one_log skips all_skips lines all_lines f w e =
     elim (text_ahead skips all_skips lines all_lines [] f w (e ∙ sym (append-nil (log_text skips lines)))) [
-      inl h ↦ (h.1, h.2)
-    | inr h ↦ absurd (nothing_next lines h.0) ]
+      | inl h ↦ (h.1, h.2)
+      | inr h ↦ absurd (nothing_next lines h.0)
+    ]
 
 -- no line of a text of the grammar is bad, up to the limit
 pub none_bad : (number : ℕ) (all_skips : List (ℕ × Skip)) (all_lines : List Line) → IsLog all_skips all_lines → line_count all_skips all_lines ≤ 33554432 → IsFirstBad number (log_text all_skips all_lines) → ⊥
@@ -144,7 +148,9 @@ none_bad number all_skips all_lines w limit (inl h) = h.1 (body all_skips all_li
 none_bad number all_skips all_lines w limit (inr h) =
     let b = h.3 in
     elim (text_ahead h.0 all_skips h.1 all_lines h.2 b.numbers w b.front) [
-      inl same ↦ b.more same.0
-    | inr on ↦ elim b.outside [
-        inl out ↦ out on.0
-      | inr past ↦ let t = on.1 in let c : line_count h.0 h.1 ≡ 33554432 = past in absurd (omega arith) ] ]
+      | inl same ↦ b.more same.0
+      | inr on ↦ elim b.outside [
+        | inl out ↦ out on.0
+        | inr past ↦ let t = on.1 in let c : line_count h.0 h.1 ≡ 33554432 = past in absurd (omega arith)
+      ]
+    ]

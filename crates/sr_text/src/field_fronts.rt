@@ -16,7 +16,10 @@ fn address_front(bytes: &[u8]) -> Option<(u32, &[u8])>
     let (b, rest) = small(b'.', rest)?;
     let (c, rest) = small(b'.', rest)?;
     let (d, rest) = small(b':', rest)?;
-    Some((((a as u32 * 256 + b as u32) * 256 + c as u32) * 256 + d as u32, rest))
+    Some((
+        ((a as u32 * 256 + b as u32) * 256 + c as u32) * 256 + d as u32,
+        rest,
+    ))
 }
 
 /// A key, and what follows the byte behind it.
