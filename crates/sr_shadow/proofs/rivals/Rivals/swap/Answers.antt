@@ -13,4 +13,4 @@ returns-clause-swapped c = λ front back h.
 pub returns-then-outside-clause-swapped : goal.returns-then-outside-clause-swapped
 returns-then-outside-clause-swapped c = λ front back h.
     tallied_same c.args.layout.now.shape c.args.way _ front back c.args.old.now c.args.new.now c.requires.key
-        (same_outside c.args.old.now c.args.new.now (sym c.outside.ensures ∙ c.if-outside.true ∙ c.outside-2.ensures)) h
+    (same_outside c.args.old.now c.args.new.now (sym c.outside.ensures ∙ c.if-outside.true ∙ c.outside-2.ensures)) h

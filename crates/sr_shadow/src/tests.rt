@@ -1,0 +1,233 @@
+//! The worked row of the book, and a long run of calls beside a plain list.
+
+ghost use Rattle.std.specs.Prelude.{◌<◌, ◌≤◌};
+
+use crate::{Shadow, Took};
+use plain::Plain;
+use sr_base::{Key, Layout, Place, Shape, Version};
+use std::test::Fail;
+
+mod plain;
+
+// Two buckets, digests of one bit and four rows, so that keys clash.
+fn small_layout() -> Option<Layout> {
+    let shape = Shape {
+        pipes: 1,
+        buckets: 2,
+        digest_bits: 1,
+        versions: 4,
+        pool_max: 4,
+        full_rows: 4,
+        filter_bits: 64,
+        ring: 8,
+        window_ms: 10,
+        idle_ms: 1000,
+        lives: 2,
+    };
+    Layout::new(shape, 2, 4).ok()
+}
+
+fn version(n: u8) -> Version
+    requires { n < 64 }
+{
+    match Version::new(n) {
+        Some(version) => version,
+        None => unreachable!(),
+    }
+}
+
+// The client of one address and this port.
+fn client(port: u16) -> Key {
+    Key {
+        vip: 0,
+        ip: 0x0a00_0009,
+        port,
+    }
+}
+
+#[test]
+fn a_repeated_take_keeps_the_version(rt: HostRuntime) -> Result<(), Fail> {
+    let alloc = rt.alloc();
+    let layout = small_layout().expect(&rt, "a layout");
+    let mut book = Shadow::new(alloc, &layout)?;
+    assert_eq!(rt; book.take(alloc, client(4000), version(0))?, Took::New);
+    assert_eq!(rt; book.take(alloc, client(4000), version(1))?, Took::Same);
+    assert_eq!(rt; book.get(client(4000)).map(|e| e.version), Some(version(0)));
+    assert!(rt; !book.close(client(4001)));
+    assert!(rt; book.retire(client(4001)).is_none());
+    assert_eq!(rt; book.len(), 1);
+    Ok(())
+}
+
+// A number that looks random, below `most`, and the next state.
+fn draw(state: &mut u64, most: u64) -> u64
+    requires { 0 < most }
+    ensures { result < most }
+{
+    *state = state
+        .wrapping_mul(6364136223846793005)
+        .wrapping_add(1442695040888963407);
+    (*state >> 33) % most
+}
+
+// One of 48 keys.
+fn draw_key(state: &mut u64) -> Key {
+    let vip = draw(state, 2) as u8;
+    let ip = 0x0a00_0009 + draw(state, 3) as u32;
+    let port = 4000 + draw(state, 8) as u16;
+    Key { vip, ip, port }
+}
+
+// A slot, now and then one that the layout doesn't have, or a row.
+fn draw_place(state: &mut u64) -> Place {
+    if draw(state, 3) == 0 {
+        return Place::Row {
+            row: draw(state, 4) as u32,
+        };
+    }
+    Place::Slot {
+        way: 1 + draw(state, 2) as u8,
+        bucket: draw(state, 3) as u32,
+        cell: draw(state, 4) as u8,
+    }
+}
+
+#[test]
+fn a_long_run_is_as_on_a_plain_list(rt: HostRuntime) -> Result<(), Fail> {
+    let alloc = rt.alloc();
+    let layout = small_layout().expect(&rt, "a layout");
+    let mut book = Shadow::new(alloc, &layout)?;
+    let mut plain = Plain::new(alloc);
+    let mut state: u64 = 7;
+    for _ in 0..2000u32 {
+        let key = draw_key(&mut state);
+        let place = draw_place(&mut state);
+        match draw(&mut state, 9) {
+            0 | 1 | 2 => {
+                let chosen = version(draw(&mut state, 3) as u8);
+                assert!(rt; book.taken() < 1 << 56);
+                assert_eq!(rt; book.take(alloc, key, chosen)?, plain.take(key, chosen)?);
+            }
+            3 | 4 => settle_both(&mut book, &mut plain, key, place),
+            5 => leave_both(&mut book, &mut plain, key),
+            6 => sweep_both(&mut book, &mut plain, key, draw(&mut state, 2) == 0),
+            7 => {
+                let known = close_plain(&mut plain, key);
+                assert_eq!(rt; book.close(key), known);
+            }
+            _ => {
+                assert_eq!(rt; book.retire(key), plain.get(key));
+                plain.retire(key);
+            }
+        }
+        assert!(rt; look_alike(&book, &plain, &layout, key, place, draw(&mut state, 700)));
+    }
+    Ok(())
+}
+
+// Closes the key in the plain list; whether it is registered.
+fn close_plain(plain: &mut Plain, key: Key) -> bool {
+    match plain.get(key) {
+        Some(mut entry) => {
+            entry.closed = true;
+            plain.put(entry);
+            true
+        }
+        None => false,
+    }
+}
+
+// Settles the key in both, where it may be.
+fn settle_both(book: &mut Shadow, plain: &mut Plain, key: Key, place: Place) {
+    if book.holder(place).is_some() {
+        return;
+    }
+    match book.get(key) {
+        Some(entry) => {
+            if entry.also.is_some() {
+                return;
+            }
+        }
+        None => return,
+    }
+    book.settle(key, place);
+    if let Some(mut entry) = plain.get(key) {
+        entry.also = entry.place;
+        entry.place = Some(place);
+        entry.quiet = None;
+        plain.put(entry);
+    }
+}
+
+// Lets the key leave its other place in both, where it has one.
+fn leave_both(book: &mut Shadow, plain: &mut Plain, key: Key) {
+    match book.get(key) {
+        Some(entry) => {
+            if entry.also.is_none() {
+                return;
+            }
+        }
+        None => return,
+    }
+    book.leave(key);
+    if let Some(mut entry) = plain.get(key) {
+        entry.also = None;
+        plain.put(entry);
+    }
+}
+
+// Sweeps the key in both, where it has a place.
+fn sweep_both(book: &mut Shadow, plain: &mut Plain, key: Key, hit: bool) {
+    match book.get(key) {
+        Some(entry) => {
+            if entry.place.is_none() {
+                return;
+            }
+        }
+        None => return,
+    }
+    book.swept(key, hit);
+    if let Some(mut entry) = plain.get(key) {
+        entry.quiet = match entry.quiet {
+            Some(n) => {
+                if hit {
+                    Some(0)
+                } else {
+                    Some(n.saturating_add(1))
+                }
+            }
+            None => Some(0),
+        };
+        plain.put(entry);
+    }
+}
+
+// Whether both answer alike.
+fn look_alike(
+    book: &Shadow,
+    plain: &Plain,
+    layout: &Layout,
+    key: Key,
+    place: Place,
+    number: u64,
+) -> bool {
+    let lists = book.len() == plain.entries.len() && book.taken() == plain.taken;
+    let entries = book.get(key).copied() == plain.get(key)
+        && book.first_pending(number).copied() == plain.first(number, false)
+        && book.first_placed(number).copied() == plain.first(number, true);
+    let indexes = book.holder(place) == plain.holder(place)
+        && book.clashing(1, key) == plain.clashing(layout, 1, key)
+        && book.clashing(2, key) == plain.clashing(layout, 2, key)
+        && book.count(key.vip, version(0)) == plain.count(key.vip, version(0));
+    lists && entries && indexes && same_entries(book, plain)
+}
+
+// Whether the entries are the same, in the same order.
+fn same_entries(book: &Shadow, plain: &Plain) -> bool {
+    for i in 0..plain.entries.len() {
+        if book.at(i) != plain.entries.get(i) {
+            return false;
+        }
+    }
+    true
+}
