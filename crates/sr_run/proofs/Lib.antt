@@ -3,7 +3,8 @@ mod CaptureRecords
 mod CommandServers
 mod Digits
 mod FrameVips
-mod KeptServers
+mod LawfulLines
+mod Parts
 mod PrintedLines
 mod Running
 mod Writing

@@ -1,5 +1,5 @@
 -- From what was read and printed to what a run answers.
-use Rattle.std.proofs.Common.{◌≡◌, ℕ, List, [], drop, Option, Some, None, Ok, Err, refl, sym, ap, ◌∙◌, subst}
+use Rattle.std.proofs.Common.{◌≡◌, ℕ, List, drop, Option, Some, Ok, Err, refl, sym, ap, ◌∙◌, subst}
 use Rattle.sr_io.specs.Sink.{Adds, AddsFront}
 use Rattle.sr_io.proofs.Adding.{adds_nothing}
 use Rattle.sr_pcap.specs.declared.begin_refusal.BeginRefusal.{BeginRefusal}
@@ -11,7 +11,7 @@ use Rattle.sr_run.specs.declared.command.Command.TheVariants.{One, Make}
 use Rattle.sr_run.specs.declared.status.CaptureRefusal.{CaptureRefusal}
 use Rattle.sr_run.specs.declared.status.Status.{Status}
 use Rattle.sr_run.specs.declared.status.Status.TheVariants.{Done, Usage, Capture, ReadFault, WriteFault, Memory}
-use Rattle.sr_run.specs.Capture.{Keeps, header_refusal, packets_from, records_behind, skips_from}
+use Rattle.sr_run.specs.Capture.{Keeps, header_refusal, records_behind, skips_from}
 use Rattle.sr_run.specs.Make.{Makes}
 use Rattle.sr_run.specs.One.{one_text}
 use Rattle.sr_run.specs.Run.{Answers, EndsPrinting, refusal_of, refusal_in, printed, printed_in}

@@ -1,5 +1,6 @@
 -- The commands of the program.
-use Rattle.std.specs.Prelude.{ℕ, ◌≤◌, if◌then◌else◌, List, [], ◌∷◌, codes, Option, Some, None, option_map, option_and_then}
+use Rattle.std.specs.Prelude.{ℕ, ◌≤◌, ◌==◌, Bool, false, if◌then◌else◌, List, [], ◌∷◌, codes, Option, None, IsSome, option_map, option_and_then}
+use Rattle.std.specs.List.{list_any}
 use Rattle.std.specs.Str.{bytes_eq}
 use Rattle.sr_script.specs.Address.{address_of}
 use Rattle.sr_run.specs.Numbers.{count_of_packets, number_of}
@@ -21,10 +22,23 @@ command_of_three name first second =
     if bytes_eq name (codes "one") then one_of first second
     else (if bytes_eq name (codes "make") then make_of first second else None)
 
--- the command that the words are
+-- the command of words none of which begins with `-`
+abbrev pub command_of_plain : List (List ℕ) → Option Command
+command_of_plain (name ∷ first ∷ second ∷ []) = command_of_three name first second
+command_of_plain _ = None
+
+-- the word begins with `-`
+abbrev pub begins_with_dash : List ℕ → Bool
+begins_with_dash [] = false
+begins_with_dash (byte ∷ bytes) = byte == 45
+
+-- the command that the words are; a word that begins with `-` is usage
 unfoldable pub command_of : List (List ℕ) → Option Command
-command_of (name ∷ first ∷ second ∷ []) = command_of_three name first second
-command_of _ = None
+command_of words = if list_any begins_with_dash words then None else command_of_plain words
+
+-- the words are a command
+abbrev pub IsCommand : List (List ℕ) → Type 0
+IsCommand words = IsSome (command_of words)
 
 -- its numbers are in range: it has a server; it has packets, and no more than a capture may have
 abbrev pub IsInRange : Command → Type 0

@@ -3,6 +3,7 @@ pub mod Command
 pub mod Make
 pub mod Numbers
 pub mod One
+pub mod Parting
 pub mod Run
 pub mod Servers
 pub mod Status

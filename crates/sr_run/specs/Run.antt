@@ -5,6 +5,7 @@ use Rattle.sr_io.specs.Sink.{Adds, AddsFront}
 use Rattle.sr_io.specs.declared.sink.Put.{Put}
 use Rattle.sr_io.specs.declared.sink.Put.TheVariants as put
 use Rattle.sr_law.specs.declared.line.Line.{Line}
+use Rattle.sr_law.specs.Lawful.{IsLawful}
 use Rattle.sr_law.specs.Pools.{VipPools}
 use Rattle.sr_law.specs.Same.{meets_same}
 use Rattle.sr_law.specs.Server.{meets_server}
@@ -18,7 +19,7 @@ use Rattle.sr_run.specs.declared.status.CaptureRefusal.{CaptureRefusal}
 use Rattle.sr_run.specs.declared.status.Status.{Status}
 use Rattle.sr_run.specs.declared.status.Status.TheVariants.{Done, Usage, Capture, ReadFault, WriteFault, Memory}
 use Rattle.sr_run.specs.Capture.{records_behind, ending_of, packets_from, skips_from, header_refusal}
-use Rattle.sr_run.specs.One.{one_lines, one_pools, one_text}
+use Rattle.sr_run.specs.One.{one_lines, one_pools, one_setup, one_text}
 
 -- the refusal of a capture with this header, if it is refused
 abbrev pub refusal_in : Result Format BeginRefusal → List ℕ → Option CaptureRefusal
@@ -65,6 +66,19 @@ KeepsServer pools before line = IsTrue (meets_same before line) × IsTrue (meets
 -- each of these lines does, after those before it
 abbrev pub KeepServers : List VipPools → List Line → Type 0
 KeepServers pools lines = (i : ℕ) (line : Line) → slice_get lines i ≡ Some line → KeepsServer pools (lines_before i lines) line
+
+-- the lines of a capture with this header are lawful for the command's setup
+abbrev pub IsLawfulIn : Result Format BeginRefusal → ℕ × ℕ → ℕ → List ℕ → Type 0
+IsLawfulIn (Ok format) vip servers bytes =
+    let packets = packets_from format.link vip 1 (records_behind format bytes).frames in
+    IsLawful (one_setup servers packets) (one_lines servers packets)
+IsLawfulIn (Err why) vip servers bytes = Unit {0}
+
+-- The lines that a command prints of these bytes are lawful for its setup: no line breaks a clause by the lines before it, and each packet
+-- has its final line. Where the header is refused, and of a command that prints no lines, nothing is said.
+unfoldable pub PrintsLawful : Command → List ℕ → Type 0
+PrintsLawful (One vip servers) bytes = IsLawfulIn (header_of bytes) vip servers (drop 24 bytes)
+PrintsLawful (Make number packets) bytes = Unit {0}
 
 -- the bytes that a command which is done has left: none, or all of them where it reads nothing
 abbrev pub left_by : Command → List ℕ → List ℕ

@@ -1,7 +1,10 @@
 ghost use Rattle.std.specs.Prelude.{◌≡◌, IfOk, IfSome, map, string_bytes};
-ghost use Rattle.sr_run.specs.Command.{IsInRange, command_of, make_of, one_of};
+ghost use Rattle.std.specs.List.{list_any};
+ghost use Rattle.sr_run.specs.Command.{IsInRange, begins_with_dash, command_of, command_of_plain, make_of, one_of};
+ghost use Rattle.sr_run.specs.Parting.{texts};
 
 use crate::numbers::{count_of_packets, number_of};
+use crate::parting::part;
 use crate::servers::count_of_servers;
 use sr_script::address;
 use std::alloc::{AllocError, Global};
@@ -25,18 +28,75 @@ pub enum Command {
     },
 }
 
-#[tactic(auto, unfolding(crate::specs::Command::command_of))]
-/// The command that the words are; None where they are none.
+/// The command that the words are; None where they are none. Words that are one are parted by the command-line library, and read from its parts.
 pub(crate) fn read_command(alloc: Global, words: &[String]) -> Result<Option<Command>, AllocError>
     ensures value { IfOk result (λ c. c ≡ command_of (map string_bytes words.now)) }
     ensures some { IfOk result (λ c. IfSome c IsInRange) }
 {
+    let texts = texts_of(alloc, words)?;
+    match command_of(alloc, &texts)? {
+        None => Ok(None),
+        Some(_) => command_of(alloc, &part(alloc, words)?),
+    }
+}
+
+// The texts of words.
+fn texts_of<'a>(alloc: Global, words: &'a [String]) -> Result<Vec<&'a str>, AllocError>
+    ensures { IfOk result (λ known. texts known.items ≡ map string_bytes words.entry.now) }
+{
+    let mut known = Vec::new(alloc);
+    for word in words {
+        known.push(word.as_str())?;
+    }
+    Ok(known)
+}
+
+// The command that these words are.
+#[tactic(auto, unfolding(crate::specs::Command::command_of))]
+fn command_of(alloc: Global, words: &[&str]) -> Result<Option<Command>, AllocError>
+    ensures value { IfOk result (λ c. c ≡ command_of (texts words.now)) }
+    ensures some { IfOk result (λ c. IfSome c IsInRange) }
+{
+    if any_begins_with_dash(words) {
+        Ok(None)
+    } else {
+        command_of_plain(alloc, words)
+    }
+}
+
+// Whether any of these words begins with `-`.
+fn any_begins_with_dash(words: &[&str]) -> bool
+    ensures { result ≡ list_any begins_with_dash (texts words.now) }
+{
+    for word in words {
+        if begins_with_dash(*word) {
+            return true;
+        }
+    }
+    false
+}
+
+// Whether a word begins with `-`.
+fn begins_with_dash(word: &str) -> bool
+    ensures { result ≡ begins_with_dash word.now }
+{
+    match word.as_bytes() {
+        [] => false,
+        [byte, ..] => *byte == b'-',
+    }
+}
+
+// The command that these words are, none of which begins with `-`.
+fn command_of_plain(alloc: Global, words: &[&str]) -> Result<Option<Command>, AllocError>
+    ensures value { IfOk result (λ c. c ≡ command_of_plain (texts words.now)) }
+    ensures some { IfOk result (λ c. IfSome c IsInRange) }
+{
     match words {
         [name, first, second] => {
-            if name.as_str() == "one" {
-                read_one(alloc, first.as_str(), second.as_str())
-            } else if name.as_str() == "make" {
-                Ok(read_make(first.as_str(), second.as_str()))
+            if *name == "one" {
+                read_one(alloc, *first, *second)
+            } else if *name == "make" {
+                Ok(read_make(*first, *second))
             } else {
                 Ok(None)
             }

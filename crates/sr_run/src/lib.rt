@@ -10,6 +10,7 @@ mod command;
 mod make_capture;
 mod numbers;
 mod one;
+mod parting;
 mod print_log;
 mod servers;
 mod status;

@@ -2,7 +2,7 @@ ghost use Rattle.std.specs.Prelude.{◌≡◌, ◌⊎◌, List, ℕ, Some, None,
 ghost use Rattle.sr_io.specs.Faults.{Rose};
 ghost use Rattle.sr_run.specs.Command.{command_of};
 ghost use Rattle.sr_run.specs.Make.{Makes};
-ghost use Rattle.sr_run.specs.Run.{Answers, KeepServers, WritesNothing, lines_of, pools_of};
+ghost use Rattle.sr_run.specs.Run.{Answers, KeepServers, PrintsLawful, WritesNothing, lines_of, pools_of};
 ghost use Rattle.sr_run.specs.declared.command.Command.{Command};
 ghost use Rattle.sr_run.specs.declared.status.Status.TheVariants.{Usage, ReadFault, WriteFault, Memory};
 
@@ -36,6 +36,9 @@ pub fn run<R: Threads + Sync, S: Source, F: Shelf, K: Sink, G: Gate + Sync>(
     // What `make` does, whatever the source: it reads nothing.
     ensures make { (number packets : ℕ) → command_of (map string_bytes words.now) ≡ Some (Command.Make number packets)
         → Makes result number packets (K.taken sink.old) (K.taken sink.new) × (source.new ≡ source.old) }
+
+    // The lines among what it prints are lawful.
+    ensures lawful { (c : Command) (xs : List ℕ) → command_of (map string_bytes words.now) ≡ Some c → PrintsLawful c xs }
 
     // No line among what it prints leaves its connection's server.
     ensures servers { (c : Command) (xs : List ℕ) → command_of (map string_bytes words.now) ≡ Some c → KeepServers (pools_of c) (lines_of c xs) }

@@ -1,2 +1,4 @@
 pub mod Fields
 pub mod LineText
+pub mod Log
+pub mod Ranges

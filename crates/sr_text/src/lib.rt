@@ -4,9 +4,15 @@
 
 mod fields;
 mod line_text;
+mod log;
+mod log_refusal;
 mod printing;
 mod put;
+mod reading;
 
 pub use fields::put_key;
 pub use line_text::LineText;
+pub use log::Log;
+pub use log_refusal::LogRefusal;
 pub use printing::{print, print_head, print_skip};
+pub use reading::read_lines;
