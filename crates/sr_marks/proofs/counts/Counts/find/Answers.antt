@@ -1,0 +1,48 @@
+use Rattle.std.proofs.Common.{◌≡◌, ◌+◌, ◌-◌, refl, subst, arith, rules}
+use Rattle.sr_marks.proofs.Walks.{Finding, level-read, levels-under, finding_none, finding-within, finding_left, finding_right, finding_all}
+use Rattle.sr_marks.proofs.counts.Counts.find.Goals as goal
+
+pub loop-i-init : goal.loop-i-init
+loop-i-init c =
+    let levels = c.self.inside.levels.items in
+    finding_none levels c.args.self.now c.args.n _ (levels-under levels c.args.self.now c.self.invariant c.self.view_is) (search rules) c.requires.within
+
+pub overflow_mul-at : goal.overflow_mul-at
+overflow_mul-at c =
+    let e = finding-within c.args.self.now c.args.n c.loop-i.i c.loop-i.at c.loop-i.rest c.loop-i.invariant in
+    omega arith
+
+pub overflow_add-at : goal.overflow_add-at
+overflow_add-at c =
+    let e = finding-within c.args.self.now c.args.n c.loop-i.i c.loop-i.at c.loop-i.rest c.loop-i.invariant in
+    omega arith
+
+pub loop-i-preserved-then-left-rest : goal.loop-i-preserved-then-left-rest
+loop-i-preserved-then-left-rest c =
+    let xs = c.args.self.now in
+    let i = c.loop-i.i - 1 in
+    let at = c.loop-i.at in
+    let levels = c.self.inside.levels.items in
+    let here = level-read levels levels xs c.index.result.now i c.self.invariant c.self.view_is refl (omega arith) c.index.ensures in
+    let up : c.loop-i.i ≡ i + 1 = omega arith in
+    let found = subst (λ j. Finding xs c.args.n j at c.loop-i.rest) up c.loop-i.invariant in
+    let left = c.get-left.ensures in
+    rw left (finding_right xs c.index.result.now c.args.n i at c.loop-i.rest found here (omega arith))
+
+pub loop-i-preserved : goal.loop-i-preserved
+loop-i-preserved c =
+    let xs = c.args.self.now in
+    let i = c.loop-i.i - 1 in
+    let at = c.loop-i.at in
+    let levels = c.self.inside.levels.items in
+    let here = level-read levels levels xs c.index.result.now i c.self.invariant c.self.view_is refl (omega arith) c.index.ensures in
+    let up : c.loop-i.i ≡ i + 1 = omega arith in
+    let found = subst (λ j. Finding xs c.args.n j at c.loop-i.rest) up c.loop-i.invariant in
+    finding_left xs c.index.result.now c.args.n i at c.loop-i.rest found here (omega (arith, c.get-left.ensures))
+
+pub returns : goal.returns
+returns c =
+    let none : c.loop-i.i ≡ 0 = omega arith in
+    let found = subst (λ j. Finding c.args.self.now c.args.n j c.loop-i.at c.loop-i.rest) none c.loop-i.invariant in
+    let r = finding_all c.args.self.now c.args.n c.loop-i.at c.loop-i.rest found in
+    record { before = r.0; past = r.1 }

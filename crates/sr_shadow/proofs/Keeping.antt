@@ -1,0 +1,159 @@
+-- The indexes stay those of the entries.
+use Rattle.std.proofs.Common.{◌≡◌, ℕ, zero, suc, ◌+◌, ◌^◌, ◌<◌, ◌≤◌, Bool, true, false, cond, ◌&&◌, List, [], ◌∷◌, ◌++◌, length, drop, map, find, count_by, get_or, Option, None, Some, is_some, option_map, refl, sym, ◌∙◌, ap, subst, true≢false, arith}
+use Rattle.std.proofs.lemmas.List.Sums.{count_by-le-length}
+use Rattle.std.specs.Prelude.{slice_get, option_to_list}
+use Rattle.sr_base.specs.Key.{KeyView, IsKey}
+use Rattle.sr_base.specs.Layout.{LayoutView}
+use Rattle.sr_base.specs.declared.place.Place.{Place}
+use Rattle.sr_base.specs.declared.shape.Shape.{Shape}
+use Rattle.sr_hash.specs.Clash.{clashes}
+use Rattle.sr_shadow.specs.Book.{Book, entry_for, is_registered, with_changed, holder_of, count_of, DistinctKeys, IsBook}
+use Rattle.sr_shadow.specs.Counts.{cell_of, Counted}
+use Rattle.sr_shadow.specs.Entry.{has_version, holds, is_outside, stands_in, settled, left_other}
+use Rattle.sr_shadow.specs.Holders.{HeldBy}
+use Rattle.sr_shadow.specs.Numbers.{Numbered}
+use Rattle.sr_shadow.specs.Rivals.{is_member, is_outsider, Tallied, FewTallied}
+use Rattle.sr_shadow.specs.Shadow.{IsShadow, HasRoom}
+use Rattle.sr_shadow.specs.declared.entry.Entry.{Entry}
+use Rattle.sr_shadow.specs.declared.tally.Tally.{Tally}
+use Rattle.sr_shadow.proofs.Books.{distinct_more, distinct_swap, distinct_less, keys_more, keys_swap, keys_less, taken_more, taken_swap, taken_less, few_taken}
+use Rattle.sr_shadow.proofs.Classes.{tallied_same}
+use Rattle.sr_shadow.proofs.Lookups.{numbered_same}
+use Rattle.sr_shadow.proofs.Places.{holder_more, holder_same, held_alike, once_less, once_more, once_settled, once_left, once_without}
+use Rattle.sr_shadow.proofs.Splits.{Split, split, changed_split, count_split}
+use Rattle.sr_shadow.proofs.Tables.{counted_same}
+
+-- no more entries than numbers, and far fewer than 64 bits count
+pub few_entries : (es : List Entry) (taken : ℕ) → IsBook es taken → length es ≤ 2 ^ 56
+few_entries es taken b = omega (arith, few_taken 0 taken es b.rising, b.most)
+
+-- one entry more
+pub shadow_more : (l : LayoutView) (es new : List Entry) (taken next : ℕ) (numbers numbers2 : ℕ → Option ℕ) (counts counts2 : List ℕ) (one one2 two two2 : ℕ → Option Tally) (table : List (Option KeyView)) (e : Entry)
+    → new ≡ es ++ e ∷ [] → next ≡ taken + 1 → IsKey e.key → is_registered e.key es ≡ false → e.taken ≡ taken → e.place ≡ None → e.also ≡ None → taken < 2 ^ 56
+    → Numbered numbers2 (es ++ e ∷ []) → Counted counts2 (es ++ e ∷ []) → Tallied l.shape 1 one2 (es ++ e ∷ []) → Tallied l.shape 2 two2 (es ++ e ∷ [])
+    → IsShadow l es taken numbers counts one two table → IsShadow l new next numbers2 counts2 one2 two2 table
+shadow_more l es new taken next numbers numbers2 counts counts2 one one2 two two2 table e is after key none told at also most n c f s h =
+    subst (λ ys. IsShadow l ys next numbers2 counts2 one2 two2 table) (sym is) (subst (λ t. IsShadow l (es ++ e ∷ []) t numbers2 counts2 one2 two2 table) (sym after) (record {
+      book = record {
+        distinct = distinct_more es e none h.book.distinct;
+        once = once_more es e at also h.book.once;
+        keys = keys_more es e key h.book.keys;
+        rising = taken_more 0 taken es e told h.book.rising;
+        most = omega (arith, most);
+      };
+      numbered = n;
+      counted = c;
+      first = f;
+      second = s;
+      held = held_alike l.shape table es (es ++ e ∷ []) (λ place. holder_more place es e at also) h.held;
+    }))
+
+-- one that the indexes can't tell from the other
+pub shadow_same : (l : LayoutView) (front back : List Entry) (e f : Entry) (taken : ℕ) (numbers : ℕ → Option ℕ) (counts : List ℕ) (one two : ℕ → Option Tally) (table : List (Option KeyView))
+    → f.key ≡ e.key → f.version ≡ e.version → f.place ≡ e.place → f.also ≡ e.also → f.taken ≡ e.taken
+    → IsShadow l (front ++ e ∷ back) taken numbers counts one two table → IsShadow l (front ++ f ∷ back) taken numbers counts one two table
+shadow_same l front back e f taken numbers counts one two table own version at also told h =
+    let out : is_outside f ≡ is_outside e = rw at refl in
+    let stands : (way : ℕ) → stands_in way f ≡ stands_in way e = λ way. rw at refl in
+    record {
+      book = record {
+        distinct = distinct_swap front back e f own h.book.distinct;
+        once = once_less front back e f h.book.once (λ place. rw (at, also) (omega arith));
+        keys = keys_swap front back e f own h.book.keys;
+        rising = taken_swap 0 taken front back e f told h.book.rising;
+        most = h.book.most;
+      };
+      numbered = numbered_same numbers front back e f own told h.numbered;
+      counted = counted_same counts front back e f own version h.counted;
+      first = tallied_same l.shape 1 one front back e f own out (stands 1) h.first;
+      second = tallied_same l.shape 2 two front back e f own out (stands 2) h.second;
+      held = held_alike l.shape table (front ++ e ∷ back) (front ++ f ∷ back) (λ place. holder_same place front back e f own at also) h.held;
+    }
+
+-- one that has moved
+pub shadow_settled : (l : LayoutView) (front back : List Entry) (e : Entry) (place : Place) (taken : ℕ) (numbers : ℕ → Option ℕ) (counts : List ℕ) (one one2 two two2 : ℕ → Option Tally) (table table2 : List (Option KeyView))
+    → e.also ≡ None → holder_of place (front ++ e ∷ back) ≡ None → Tallied l.shape 1 one2 (front ++ settled place e ∷ back) → Tallied l.shape 2 two2 (front ++ settled place e ∷ back)
+    → HeldBy l.shape table2 (front ++ settled place e ∷ back)
+    → IsShadow l (front ++ e ∷ back) taken numbers counts one two table → IsShadow l (front ++ settled place e ∷ back) taken numbers counts one2 two2 table2
+shadow_settled l front back e place taken numbers counts one one2 two two2 table table2 alone free f s held h = record {
+  book = record {
+    distinct = distinct_swap front back e (settled place e) refl h.book.distinct;
+    once = once_settled place front back e h.book.once alone free;
+    keys = keys_swap front back e (settled place e) refl h.book.keys;
+    rising = taken_swap 0 taken front back e (settled place e) refl h.book.rising;
+    most = h.book.most;
+  };
+  numbered = numbered_same numbers front back e (settled place e) refl refl h.numbered;
+  counted = counted_same counts front back e (settled place e) refl refl h.counted;
+  first = f;
+  second = s;
+  held = held;
+}
+
+-- one that has left its other place
+pub shadow_left : (l : LayoutView) (front back : List Entry) (e : Entry) (taken : ℕ) (numbers : ℕ → Option ℕ) (counts : List ℕ) (one two : ℕ → Option Tally) (table table2 : List (Option KeyView))
+    → HeldBy l.shape table2 (front ++ left_other e ∷ back)
+    → IsShadow l (front ++ e ∷ back) taken numbers counts one two table → IsShadow l (front ++ left_other e ∷ back) taken numbers counts one two table2
+shadow_left l front back e taken numbers counts one two table table2 held h = record {
+  book = record {
+    distinct = distinct_swap front back e (left_other e) refl h.book.distinct;
+    once = once_left front back e h.book.once;
+    keys = keys_swap front back e (left_other e) refl h.book.keys;
+    rising = taken_swap 0 taken front back e (left_other e) refl h.book.rising;
+    most = h.book.most;
+  };
+  numbered = numbered_same numbers front back e (left_other e) refl refl h.numbered;
+  counted = counted_same counts front back e (left_other e) refl refl h.counted;
+  first = tallied_same l.shape 1 one front back e (left_other e) refl refl refl h.first;
+  second = tallied_same l.shape 2 two front back e (left_other e) refl refl refl h.second;
+  held = held;
+}
+
+-- one less
+pub shadow_less : (l : LayoutView) (front back : List Entry) (e : Entry) (taken : ℕ) (numbers numbers2 : ℕ → Option ℕ) (counts counts2 : List ℕ) (one one2 two two2 : ℕ → Option Tally) (table table2 : List (Option KeyView))
+    → Numbered numbers2 (front ++ back) → Counted counts2 (front ++ back) → Tallied l.shape 1 one2 (front ++ back) → Tallied l.shape 2 two2 (front ++ back) → HeldBy l.shape table2 (front ++ back)
+    → IsShadow l (front ++ e ∷ back) taken numbers counts one two table → IsShadow l (front ++ back) taken numbers2 counts2 one2 two2 table2
+shadow_less l front back e taken numbers numbers2 counts counts2 one one2 two two2 table table2 n c f s held h = record {
+  book = record {
+    distinct = distinct_less front back e h.book.distinct;
+    once = once_without front back e h.book.once;
+    keys = keys_less front back e h.book.keys;
+    rising = taken_less 0 taken front back e h.book.rising;
+    most = h.book.most;
+  };
+  numbered = n;
+  counted = c;
+  first = f;
+  second = s;
+  held = held;
+}
+
+-- a place looked for entry by entry
+pub scan_found : (place : Place) (es : List Entry) (i : ℕ) (key : KeyView) → holder_of place (option_to_list (slice_get es i)) ≡ Some key → holder_of place (drop i es) ≡ Some key
+scan_found place [] i key h = absurd (true≢false (sym (ap is_some h)))
+scan_found place (e ∷ es) zero key h = by (holds place e) refl
+  where
+    by : (b : Bool) → holds place e ≡ b → holder_of place (e ∷ es) ≡ Some key
+    by true t = grind (arith, h, t)
+    by false t = grind (arith, h, t)
+scan_found place (e ∷ es) (suc i) key h = scan_found place es i key h
+
+pub scan_on : (place : Place) (es : List Entry) (i : ℕ) → holder_of place (option_to_list (slice_get es i)) ≡ None → holder_of place (drop i es) ≡ holder_of place (drop (suc i) es)
+scan_on place [] zero h = refl
+scan_on place [] (suc i) h = refl
+scan_on place (e ∷ es) zero h = grind (arith, h)
+scan_on place (e ∷ es) (suc i) h = scan_on place es i h
+
+-- room stays
+pub room_more : (ready : Option KeyView) (a b c d e f g h : ℕ) → a ≤ e → b ≤ f → c ≤ g → d ≤ h → HasRoom ready a b c d → HasRoom ready e f g h
+room_more None a b c d e f g h p q r s room = tt
+room_more (Some key) a b c d e f g h p q r s room = (omega (arith, p, room.0), omega (arith, q, room.1), omega (arith, r, room.2), omega (arith, s, room.3))
+
+-- books with equal parts
+pub book_is : (l : LayoutView) (r : Option KeyView) (es fs : List Entry) (t u : ℕ) → es ≡ fs → t ≡ u
+    → ◌≡◌ {A = Book} (record { layout = l; entries = es; taken = t; ready = r }) (record { layout = l; entries = fs; taken = u; ready = r })
+book_is l r es fs t u p q = λ i. record { layout = l; entries = p i; taken = q i; ready = r }
+
+pub shadow_conv : (l : LayoutView) (es ys : List Entry) (t u : ℕ) (numbers : ℕ → Option ℕ) (counts : List ℕ) (one two : ℕ → Option Tally) (table : List (Option KeyView))
+    → es ≡ ys → t ≡ u → IsShadow l es t numbers counts one two table → IsShadow l ys u numbers counts one two table
+shadow_conv l es ys t u numbers counts one two table p q h = subst (λ n. IsShadow l ys n numbers counts one two table) q (subst (λ zs. IsShadow l zs t numbers counts one two table) p h)

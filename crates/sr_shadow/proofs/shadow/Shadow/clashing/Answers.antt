@@ -1,0 +1,16 @@
+use Rattle.std.proofs.Common.{ap, sym, ◌∙◌, arith}
+use Rattle.std.proofs.lemmas.Bool.Decides.{nat_tests}
+use Rattle.sr_shadow.specs.Rivals.{own_outside}
+use Rattle.sr_shadow.proofs.Classes.{clashing_counted}
+use Rattle.sr_shadow.proofs.shadow.Shadow.clashing.Goals as goal
+
+pub returns : goal.returns
+returns c =
+    grind (
+      arith,
+      nat_tests,
+      clashing_counted c.args.self.now.layout.shape c.args.way c.args.key c.args.self.now.entries c.outsiders.ensures.distinct,
+      c.outsiders.ensures.count,
+      ap own_outside c.get.ensures,
+      c.outside_by_one-own.ensures,
+    )

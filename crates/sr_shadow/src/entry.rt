@@ -1,0 +1,96 @@
+ghost use Rattle.std.specs.Prelude.{◌≡◌, cond};
+ghost use Rattle.sr_shadow.specs.Entry.{holds, is_at, is_outside, quiet_after, same_place, stands_in};
+
+use sr_base::{Key, Place, Version};
+
+/// An entry of the book. A key without a Live place is pending.
+#[derive(Clone, Copy, Debug, PartialEq, Eq)]
+pub struct Entry {
+    /// The registered key.
+    pub key: Key,
+    /// The version of the key's pool.
+    pub version: Version,
+    /// The place at which the key is Live, if there is one.
+    pub place: Option<Place>,
+    /// While the key moves, the place that it had before and still holds.
+    pub also: Option<Place>,
+    /// How many entries were ever taken before this one.
+    pub taken: u64,
+    /// Whether a Close was taken for the key.
+    pub closed: bool,
+    /// How many sweeps in a row since the base found no hit, 255 for more. None before the base.
+    pub quiet: Option<u8>,
+}
+
+// Whether the entry holds the place.
+pub(crate) fn holds(entry: &Entry, place: Place) -> bool
+    ensures { result ≡ holds place entry.now }
+{
+    is_at(entry.place, place) || is_at(entry.also, place)
+}
+
+// Whether a place, if there is one, is this one.
+fn is_at(held: Option<Place>, place: Place) -> bool
+    ensures { result ≡ is_at place held }
+{
+    match held {
+        Some(held) => is_same(place, held),
+        None => false,
+    }
+}
+
+// Whether two places are one.
+fn is_same(a: Place, b: Place) -> bool
+    ensures { result ≡ same_place a b }
+{
+    match (a, b) {
+        (
+            Place::Slot { way, bucket, cell },
+            Place::Slot {
+                way: other_way,
+                bucket: other_bucket,
+                cell: other_cell,
+            },
+        ) => way == other_way && bucket == other_bucket && cell == other_cell,
+        (Place::Row { row }, Place::Row { row: other }) => row == other,
+        _ => false,
+    }
+}
+
+// 1 for an entry that isn't placed in a row of the full-key table, else 0.
+pub(crate) fn outside(entry: &Entry) -> u64
+    ensures { result ≡ cond (is_outside entry.now) 1 0 }
+{
+    match entry.place {
+        Some(Place::Row { .. }) => 0,
+        _ => 1,
+    }
+}
+
+// 1 for an entry whose Live place is a slot of this way, else 0.
+pub(crate) fn standing(way: u8, entry: &Entry) -> u64
+    ensures { result ≡ cond (stands_in way entry.now) 1 0 }
+{
+    match entry.place {
+        Some(Place::Slot { way: at, .. }) => { if at == way { 1 } else { 0 } }
+        _ => 0,
+    }
+}
+
+// The quiet sweeps since the base after one more, which found a hit or found none.
+pub(crate) fn quiet_after(hit: bool, quiet: Option<u8>) -> u8
+    ensures { result ≡ quiet_after hit quiet }
+{
+    match quiet {
+        None => 0,
+        Some(n) => {
+            if hit {
+                0
+            } else if n < 255 {
+                n + 1
+            } else {
+                255
+            }
+        }
+    }
+}

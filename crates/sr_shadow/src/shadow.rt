@@ -1,0 +1,419 @@
+ghost use Rattle.std.specs.Prelude.{◌≡◌, ◌≢◌, ◌+◌, ◌^◌, ◌<◌, ◌≤◌, ◌∷◌, ◌++◌, List, length, slice_get, find, count_by, true, false, is_some, option_copied, option_to_list, Option, Some, None, IsOk, IfOk, OnOk, OnErr};
+ghost use Rattle.sr_shadow.specs.Book.{entry_for, is_registered, pending_from, placed_from, holder_of, count_of, is_clashing, standing_of, opened, reserved_for, with_changed, with_new, with_closed, with_settled, with_left, with_swept, with_retired, CanSettle, CanLeave, CanSweep, DistinctKeys, IsBook};
+ghost use Rattle.sr_shadow.specs.Entry.{holds, is_at, quiet_after, same_place};
+ghost use Rattle.sr_shadow.specs.Rivals.{is_outsider, own_outside};
+ghost use Rattle.sr_shadow.specs.Shadow.{CanNote};
+ghost use Rattle.sr_shadow.specs.Taking.{Takes};
+ghost use Rattle.sr_shadow.specs.declared.entry.Entry.{Entry as AnEntry};
+
+use crate::counts::Counts;
+use crate::entry::{holds, outside, quiet_after};
+use crate::holders::{Holders, cell};
+use crate::numbers::Numbers;
+use crate::rivals::Rivals;
+use crate::roll::Roll;
+use crate::{Entry, Took};
+use sr_base::{Key, Layout, Place, Version, key_ranges, layout_ranges};
+use std::alloc::{AllocError, Global};
+use std::marker::Model;
+
+/// The controller's book: the entries of the registered keys in the order of taking. It takes memory in `new`, `reserve` and `take` alone, and
+/// every call takes at most logarithmic time; a `reserve`, and so a `take`, now and then more, as much as the retirements before it have earned.
+#[derive(Drop)]
+pub struct Shadow {
+    layout: Layout,
+    roll: Roll,
+    numbers: Numbers,
+    counts: Counts,
+    first: Rivals,
+    second: Rivals,
+    holders: Holders,
+    ready: Option<Key>,
+}
+
+impl Model for Shadow {
+    ghost use Rattle.std.specs.Prelude.{nat_eq};
+    ghost use Rattle.indexmap.specs.IndexMap.{get, spare};
+    ghost use Rattle.sr_shadow.specs.Book.{Book};
+    ghost use Rattle.sr_shadow.specs.Shadow.{IsShadow, HasRoom};
+
+    ghost Value = { Book };
+
+    ghost view = { λ s. record { layout = s.layout; entries = s.roll.entries; taken = s.roll.taken; ready = s.ready } };
+
+    ghost invariant = { λ s. IsShadow s.layout s.roll.entries s.roll.taken (get nat_eq s.numbers.map) s.counts (get nat_eq s.first.map) (get nat_eq s.second.map) s.holders.table.items
+        × HasRoom s.ready s.roll.room (spare s.numbers.map) (spare s.first.map) (spare s.second.map) };
+}
+
+impl Shadow {
+    /// The empty book of a layout.
+    pub fn new(alloc: Global, layout: &Layout) -> Result<Shadow, AllocError>
+        ensures { IfOk result (λ s. s ≡ opened layout.now) }
+    {
+        let counts = Counts::new(alloc)?;
+        let holders = Holders::new(alloc, layout)?;
+        Ok(Shadow {
+            layout: *layout,
+            roll: Roll::new(alloc),
+            numbers: Numbers::new(alloc),
+            counts,
+            first: Rivals::new(alloc),
+            second: Rivals::new(alloc),
+            holders,
+            ready: None,
+        })
+    }
+
+    /// The number that the next new entry gets: how many entries were ever taken.
+    pub fn taken(&self) -> u64
+        ensures { result ≡ self.now.taken }
+    {
+        self.roll.taken()
+    }
+
+    /// How many keys are registered.
+    pub fn len(&self) -> usize
+        ensures { result ≡ length self.now.entries }
+    {
+        self.roll.len()
+    }
+
+    /// The i-th entry in the order of taking, from 0.
+    pub fn at(&self, i: usize) -> Option<&Entry>
+        ensures { option_copied result ≡ slice_get self.now.entries i }
+    {
+        self.roll.at(i)
+    }
+
+    /// The first entry without a Live place, of those taken from this number on.
+    pub fn first_pending(&self, number: u64) -> Option<&Entry>
+        ensures { option_copied result ≡ pending_from number self.now.entries }
+    {
+        self.roll.first_pending(number)
+    }
+
+    /// The first entry with a Live place, of those taken from this number on.
+    pub fn first_placed(&self, number: u64) -> Option<&Entry>
+        ensures { option_copied result ≡ placed_from number self.now.entries }
+    {
+        self.roll.first_placed(number)
+    }
+
+    /// The key's entry. None where it isn't registered.
+    pub fn get(&self, key: Key) -> Option<&Entry>
+        ensures { option_copied result ≡ entry_for key self.now.entries }
+    {
+        key_ranges(key);
+        match self.numbers.get(key) {
+            Some(number) => self.roll.get(number),
+            None => None,
+        }
+    }
+
+    /// How many registered keys have this virtual address and version.
+    pub fn count(&self, vip: u8, version: Version) -> u64
+        ensures { result ≡ count_of vip version self.now.entries }
+    {
+        if vip < 16 {
+            self.counts.count(vip, version)
+        } else {
+            0
+        }
+    }
+
+    /// The key of the entry that has the place, as its own or as the one that it is about to leave. (A place that the layout doesn't have is
+    /// looked for entry by entry.)
+    pub fn holder(&self, place: Place) -> Option<Key>
+        ensures { result ≡ holder_of place self.now.entries }
+    {
+        match cell(&self.layout, place) {
+            Some(at) => self.holders.get(at),
+            None => self.holder_by_entry(place),
+        }
+    }
+
+    /// Whether some other registered key outside the full-key table clashes with the key in this way, 1 or 2.
+    pub fn clashing(&self, way: u8, key: Key) -> bool
+        requires { (1 ≤ way) × (way ≤ 2) }
+        ensures { result ≡ is_clashing self.now.layout.shape way key self.now.entries }
+    {
+        let own = outside_by_one(self.get(key));
+        self.outsiders(way, key) > own
+    }
+
+    /// How many entries stand in a slot of this way, 1 or 2, and clash with the key in it, its own counted: the key's packets are taken for theirs.
+    pub fn standing(&self, way: u8, key: Key) -> u64
+        requires { (1 ≤ way) × (way ≤ 2) }
+        ensures { result ≡ standing_of self.now.layout.shape way key self.now.entries }
+    {
+        if way == 1 {
+            self.first.standing(&self.layout, 1, key)
+        } else {
+            self.second.standing(&self.layout, 2, key)
+        }
+    }
+
+    /// Makes room for an entry of this key, so that the next `take` of it needs no memory. One key at a time has such room.
+    pub fn reserve(&mut self, alloc: Global, key: Key) -> Result<(), AllocError>
+        ensures ok { OnOk result (self.new ≡ reserved_for key self.old) }
+        ensures err { OnErr result (self.new ≡ self.old) }
+        ensures ready { is_some self.old.ready ≡ true → IsOk result }
+    {
+        if self.ready.is_some() {
+            self.ready = Some(key);
+            return Ok(());
+        }
+        self.roll.reserve(alloc)?;
+        self.numbers.reserve()?;
+        self.first.reserve()?;
+        self.second.reserve()?;
+        self.ready = Some(key);
+        Ok(())
+    }
+
+    /// Registers a key with this version, as the last entry. `Same` where it is registered already: then nothing changes.
+    pub fn take(&mut self, alloc: Global, key: Key, version: Version) -> Result<Took, AllocError>
+        requires { self.old.taken < 2 ^ 56 }
+        ensures { Takes result key version self.old self.new }
+    {
+        if self.has(key) {
+            return Ok(Took::Same);
+        }
+        self.reserve(alloc, key)?;
+        self.enter(key, version);
+        Ok(Took::New)
+    }
+
+    /// Marks the key closed. False where it isn't registered.
+    pub fn close(&mut self, key: Key) -> bool
+        ensures found { result ≡ is_registered key self.old.entries }
+        ensures closed { self.new ≡ with_closed key self.old }
+    {
+        match self.get(key) {
+            Some(entry) => {
+                let mut entry = *entry;
+                entry.closed = true;
+                self.note(key, entry);
+                true
+            }
+            None => false,
+        }
+    }
+
+    /// The key is Live at the place. With a place already held, the old place goes to `also`.
+    pub fn settle(&mut self, key: Key, place: Place)
+        requires registered { CanSettle key self.old.entries }
+        requires free { holder_of place self.old.entries ≡ None }
+        ensures { self.new ≡ with_settled key place self.old }
+    {
+        match self.get(key) {
+            Some(entry) => {
+                let entry = *entry;
+                self.move_entry(key, &entry, place);
+            }
+            None => unreachable!(),
+        }
+    }
+
+    /// The key gives up the place that it had before.
+    pub fn leave(&mut self, key: Key)
+        requires { CanLeave key self.old.entries }
+        ensures { self.new ≡ with_left key self.old }
+    {
+        match self.get(key) {
+            Some(entry) => {
+                let entry = *entry;
+                self.leave_place(key, &entry);
+            }
+            None => unreachable!(),
+        }
+    }
+
+    /// A sweep went by the key's place, and found a hit there or found none.
+    pub fn swept(&mut self, key: Key, hit: bool)
+        requires { CanSweep key self.old.entries }
+        ensures { self.new ≡ with_swept key hit self.old }
+    {
+        match self.get(key) {
+            Some(entry) => {
+                let mut entry = *entry;
+                entry.quiet = Some(quiet_after(hit, entry.quiet));
+                self.note(key, entry);
+            }
+            None => unreachable!(),
+        }
+    }
+
+    /// The connection is over: the key's entry, which the book has no more. None where it isn't registered.
+    pub fn retire(&mut self, key: Key) -> Option<Entry>
+        ensures entry { result ≡ entry_for key self.old.entries }
+        ensures retired { self.new ≡ with_retired key self.old }
+    {
+        match self.get(key) {
+            Some(entry) => {
+                let entry = *entry;
+                self.drop_entry(key, &entry);
+                Some(entry)
+            }
+            None => None,
+        }
+    }
+
+    // Whether the key is registered.
+    fn has(&self, key: Key) -> bool
+        ensures { result ≡ is_registered key self.now.entries }
+    {
+        match self.get(key) {
+            Some(_) => true,
+            None => false,
+        }
+    }
+
+    // How many registered keys outside the full-key table clash with the key, itself counted.
+    fn outsiders(&self, way: u8, key: Key) -> u64
+        requires { (1 ≤ way) × (way ≤ 2) }
+        ensures count { result ≡ count_by (is_outsider self.now.layout.shape way key) self.now.entries }
+        ensures distinct { DistinctKeys self.now.entries }
+    {
+        if way == 1 {
+            self.first.outsiders(&self.layout, 1, key)
+        } else {
+            self.second.outsiders(&self.layout, 2, key)
+        }
+    }
+
+    // Who holds a place, by a look at every entry.
+    fn holder_by_entry(&self, place: Place) -> Option<Key>
+        ensures { result ≡ holder_of place self.now.entries }
+    {
+        for i in 0..self.len() {
+            match holder_if(self.at(i), place) {
+                Some(key) => return Some(key),
+                None => {}
+            }
+        }
+        None
+    }
+
+    // A new last entry, for which room was made.
+    fn enter(&mut self, key: Key, version: Version)
+        requires ready { self.old.ready ≡ Some key }
+        requires new { is_registered key self.old.entries ≡ false }
+        requires most { self.old.taken < 2 ^ 56 }
+        ensures { self.new ≡ with_new key version self.old }
+    {
+        key_ranges(key);
+        let number = self.roll.taken();
+        let entry = Entry {
+            key,
+            version,
+            place: None,
+            also: None,
+            taken: number,
+            closed: false,
+            quiet: None,
+        };
+        self.numbers.join(key, number);
+        self.counts.join(&entry);
+        self.first.join(&self.layout, 1, &entry);
+        self.second.join(&self.layout, 2, &entry);
+        self.roll.push(entry);
+        self.ready = None;
+    }
+
+    // An entry in the place of the key's, from which the indexes can't tell it.
+    fn note(&mut self, key: Key, entry: Entry)
+        requires { CanNote key entry self.old.entries }
+        ensures { (change : AnEntry → AnEntry) (e : AnEntry) → entry_for key self.old.entries ≡ Some e → entry ≡ change e → self.new ≡ record self.old { entries = with_changed change key self.old.entries } }
+    {
+        let number = entry.taken;
+        self.roll.put(number, Some(entry));
+    }
+
+    // The key's entry moves to a place that nobody holds.
+    fn move_entry(&mut self, key: Key, entry: &Entry, place: Place)
+        requires registered { entry_for key self.old.entries ≡ Some entry.now }
+        requires alone { entry.now.also ≡ None }
+        requires free { holder_of place self.old.entries ≡ None }
+        ensures { self.new ≡ with_settled key place self.old }
+    {
+        let moved = Entry {
+            key: entry.key,
+            version: entry.version,
+            place: Some(place),
+            also: entry.place,
+            taken: entry.taken,
+            closed: entry.closed,
+            quiet: None,
+        };
+        self.first.swap(&self.layout, 1, entry, &moved);
+        self.second.swap(&self.layout, 2, entry, &moved);
+        self.holders.settle(&self.layout, entry, place);
+        self.roll.put(entry.taken, Some(moved));
+    }
+
+    // The key's entry gives up the place that it had before.
+    fn leave_place(&mut self, key: Key, entry: &Entry)
+        requires { entry_for key self.old.entries ≡ Some entry.now }
+        ensures { self.new ≡ with_left key self.old }
+    {
+        let left = Entry {
+            key: entry.key,
+            version: entry.version,
+            place: entry.place,
+            also: None,
+            taken: entry.taken,
+            closed: entry.closed,
+            quiet: entry.quiet,
+        };
+        self.holders.leave(&self.layout, entry);
+        self.roll.put(entry.taken, Some(left));
+    }
+
+    // The key's entry goes.
+    fn drop_entry(&mut self, key: Key, entry: &Entry)
+        requires { entry_for key self.old.entries ≡ Some entry.now }
+        ensures { self.new ≡ with_retired key self.old }
+    {
+        self.numbers.drop_out(key);
+        self.counts.drop_out(entry);
+        self.first.drop_out(&self.layout, 1, entry);
+        self.second.drop_out(&self.layout, 2, entry);
+        self.holders.free(&self.layout, entry);
+        self.roll.put(entry.taken, None);
+    }
+}
+
+// 1 for an entry that isn't placed in a row of the full-key table, else 0.
+fn outside_by_one(entry: Option<&Entry>) -> u64
+    ensures { result ≡ own_outside (option_copied entry.entry) }
+{
+    match entry {
+        Some(entry) => outside(entry),
+        None => 0,
+    }
+}
+
+// The entry's key, if the entry holds the place.
+fn holder_if(entry: Option<&Entry>, place: Place) -> Option<Key>
+    ensures { result ≡ holder_of place (option_to_list (option_copied entry.entry)) }
+{
+    match entry {
+        Some(entry) => {
+            if holds(entry, place) {
+                Some(entry.key)
+            } else {
+                None
+            }
+        }
+        None => None,
+    }
+}
+
+/// What holds of every book: no key has two entries, no place is held twice, the keys are in range, and the numbers rise and are below the
+/// number of entries that were ever taken, which is at most 2^56.
+pub fn book_rules(shadow: &Shadow)
+    ensures { IsBook shadow.now.entries shadow.now.taken }
+{
+    let _ = &shadow.layout;
+}

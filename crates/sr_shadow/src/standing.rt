@@ -1,0 +1,110 @@
+ghost use Rattle.std.specs.Prelude.{◌≡◌, ◌+◌, ◌<◌, ◌≤◌, ◌∷◌, ◌++◌, ℕ, List, [], Option, find, length, drop, slice_get, OnOk};
+ghost use Rattle.sr_shadow.specs.Entry.{is_pending, is_placed};
+ghost use Rattle.sr_shadow.specs.Roll.{entries_in, entry_found, passes, standing_room, StandsFor};
+ghost use Rattle.sr_shadow.specs.declared.entry.Entry.{Entry as AnEntry};
+
+use crate::Entry;
+use sr_marks::Marks;
+use std::alloc::{AllocError, Global};
+
+// Which slots have an entry, one without a Live place, one with a Live place.
+#[derive(Drop)]
+pub(crate) struct Standing {
+    pub(crate) live: Marks,
+    pub(crate) pending: Marks,
+    pub(crate) placed: Marks,
+}
+
+impl Standing {
+    // Of no slot.
+    pub(crate) fn new(alloc: Global) -> Standing
+        ensures { StandsFor result [] }
+    {
+        Standing {
+            live: Marks::new(alloc),
+            pending: Marks::new(alloc),
+            placed: Marks::new(alloc),
+        }
+    }
+
+    // Makes room for one more slot.
+    pub(crate) fn reserve(&mut self, alloc: Global) -> Result<(), AllocError>
+        ensures live { self.new.live.marks ≡ self.old.live.marks }
+        ensures pending { self.new.pending.marks ≡ self.old.pending.marks }
+        ensures placed { self.new.placed.marks ≡ self.old.placed.marks }
+        ensures room { OnOk result (0 < standing_room self.new) }
+    {
+        self.live.reserve(alloc)?;
+        self.pending.reserve(alloc)?;
+        self.placed.reserve(alloc)
+    }
+
+    // One slot more.
+    pub(crate) fn push(&mut self, slot: &Option<Entry>)
+        requires { 0 < standing_room self.old }
+        ensures { (slots : List (ℕ × Option AnEntry)) (number : ℕ) → StandsFor self.old slots → StandsFor self.new (slots ++ (number, slot.now) ∷ []) }
+    {
+        self.live.push(slot.is_some());
+        self.pending.push(is_pending(slot));
+        self.placed.push(is_placed(slot));
+    }
+
+    // Something else in a slot.
+    pub(crate) fn set(&mut self, at: usize, slot: &Option<Entry>)
+        requires { (slots : List (ℕ × Option AnEntry)) × StandsFor self.old slots × (at < length slots) }
+        ensures stands { (before after : List (ℕ × Option AnEntry)) (s : ℕ × Option AnEntry) (number : ℕ) → at ≡ length before → StandsFor self.old (before ++ s ∷ after) → StandsFor self.new (before ++ (number, slot.now) ∷ after) }
+        ensures room { standing_room self.new ≡ standing_room self.old }
+    {
+        self.live.set(at, slot.is_some());
+        self.pending.set(at, is_pending(slot));
+        self.placed.set(at, is_placed(slot));
+    }
+
+    // How many slots have an entry.
+    pub(crate) fn count(&self) -> usize
+        ensures { (slots : List (ℕ × Option AnEntry)) → StandsFor self.now slots → result ≡ length (entries_in slots) }
+    {
+        self.live.count()
+    }
+
+    // Where the n-th entry is, from 0.
+    pub(crate) fn nth(&self, n: usize) -> Option<usize>
+        ensures { (slots : List (ℕ × Option AnEntry)) → StandsFor self.now slots → slice_get (entries_in slots) n ≡ entry_found result slots }
+    {
+        self.live.nth(n)
+    }
+
+    // Where the first entry without a Live place is, from a slot on.
+    pub(crate) fn next_pending(&self, from: usize) -> Option<usize>
+        ensures { (slots : List (ℕ × Option AnEntry)) → StandsFor self.now slots → find is_pending (entries_in (drop from slots)) ≡ entry_found result slots }
+    {
+        self.pending.next(from)
+    }
+
+    // Where the first entry with a Live place is, from a slot on.
+    pub(crate) fn next_placed(&self, from: usize) -> Option<usize>
+        ensures { (slots : List (ℕ × Option AnEntry)) → StandsFor self.now slots → find is_placed (entries_in (drop from slots)) ≡ entry_found result slots }
+    {
+        self.placed.next(from)
+    }
+}
+
+// Whether the slot has an entry without a Live place.
+fn is_pending(slot: &Option<Entry>) -> bool
+    ensures { result ≡ passes is_pending slot.now }
+{
+    match slot {
+        Some(entry) => entry.place.is_none(),
+        None => false,
+    }
+}
+
+// Whether the slot has an entry with a Live place.
+fn is_placed(slot: &Option<Entry>) -> bool
+    ensures { result ≡ passes is_placed slot.now }
+{
+    match slot {
+        Some(entry) => entry.place.is_some(),
+        None => false,
+    }
+}
