@@ -1,11 +1,10 @@
 -- With one virtual address, a packet's key has its number, 0.
-use Rattle.std.proofs.Common.{◌≡◌, ℕ, zero, suc, ◌+◌, Bool, true, false, cond, List, [], ◌∷◌, ◌++◌, Option, Some, None, refl, drop}
+use Rattle.std.proofs.Common.{◌≡◌, ℕ, zero, suc, ◌+◌, Bool, true, false, cond, List, [], ◌∷◌, ◌++◌, Some, None, refl, drop}
 use Rattle.sr_base.specs.declared.packet.Packet.{Packet}
 use Rattle.sr_frame.specs.declared.seen.Seen.{Seen}
 use Rattle.sr_frame.specs.declared.seen.Seen.TheVariants as seen_as
 use Rattle.sr_frame.specs.declared.skip.Skip.{Skip}
 use Rattle.sr_frame.specs.Seen.{skip_if}
-use Rattle.sr_frame.specs.Vip.{vip_number}
 use Rattle.sr_frame.specs.Tcp.{segment_seen, addressed}
 use Rattle.sr_frame.specs.Ipv4.{packet_seen, header_seen, payload_seen}
 use Rattle.sr_frame.specs.Ethernet.{ethernet_seen, tagged_seen, untagged_seen}

@@ -1,9 +1,13 @@
 mod AddressLists
+mod AuditedLines
+mod Auditing
 mod CaptureRecords
 mod CommandServers
 mod Digits
 mod FrameVips
-mod KeptServers
+mod LawfulLines
+mod Parts
 mod PrintedLines
 mod Running
+mod Sorting
 mod Writing

@@ -2,17 +2,28 @@
 use Rattle.std.specs.Prelude.{ℕ, ◌+◌, List, [], ◌∷◌}
 use Rattle.std.specs.List.{range_with_len}
 use Rattle.sr_base.specs.declared.packet.Packet.{Packet}
+use Rattle.sr_base.specs.declared.shape.Shape.{Shape}
 use Rattle.sr_frame.specs.declared.skip.Skip.{Skip}
 use Rattle.sr_hash.specs.Uses.{selected}
 use Rattle.sr_law.specs.declared.line.Line.{Line}
 use Rattle.sr_law.specs.declared.line.Line.TheVariants as lines
 use Rattle.sr_law.specs.declared.verdict.Verdict.TheVariants.{To}
 use Rattle.sr_law.specs.Pools.{VipPools}
+use Rattle.sr_law.specs.Setup.{SetupView}
+use Rattle.sr_script.specs.Walk.{default_shape}
 use Rattle.sr_text.specs.LineText.{log_text}
 
 -- the pools: the one virtual address has one pool, of all the servers in their order
 abbrev pub one_pools : ℕ → List VipPools
 one_pools servers = record { first = range_with_len 0 servers; given = [] } ∷ []
+
+-- the shape: that of a script which says nothing, with one pipe, and with pools as large as they may be
+abbrev pub one_shape : Shape
+one_shape = record default_shape { pipes = 1; pool_max = 255 }
+
+-- what its lines are judged for: this shape, so many servers, their one pool, and the packets of the capture
+abbrev pub one_setup : ℕ → List Packet → SetupView
+one_setup servers packets = record { shape = one_shape; servers = servers; pools = one_pools servers; packets = packets }
 
 -- the opening line: version 0 of the virtual address is its pool 1
 abbrev pub opening_line : Line

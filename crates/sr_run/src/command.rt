@@ -1,14 +1,17 @@
-ghost use Rattle.std.specs.Prelude.{◌≡◌, IfOk, IfSome, map, string_bytes};
-ghost use Rattle.sr_run.specs.Command.{IsInRange, command_of, make_of, one_of};
+ghost use Rattle.std.specs.Prelude.{◌≡◌, IfOk, IfSome, map, option_map, string_bytes};
+ghost use Rattle.std.specs.List.{list_any};
+ghost use Rattle.sr_run.specs.Command.{IsInRange, begins_with_dash, command_of, command_of_plain, make_of, one_of, seen};
+ghost use Rattle.sr_run.specs.Parting.{texts};
 
 use crate::numbers::{count_of_packets, number_of};
+use crate::parting::part;
 use crate::servers::count_of_servers;
 use sr_script::address;
 use std::alloc::{AllocError, Global};
 
 /// What the words after the program's name ask for.
 #[derive(Clone, Copy, Debug, PartialEq, Eq)]
-pub enum Command {
+pub(crate) enum Command<'a> {
     /// A capture and one pool: `one VIP SERVERS`.
     One {
         /// The virtual address: IPv4 address and TCP port.
@@ -23,20 +26,92 @@ pub enum Command {
         /// How many packets the capture has, 1 to 4,194,304.
         packets: u32,
     },
+    /// A log and a script: `audit SCRIPT`.
+    Audit {
+        /// The name of the script.
+        script: &'a str,
+    },
 }
 
+/// The command that the words are; None where they are none. Words that are one are parted by the command-line library, and read from its parts.
+pub(crate) fn read_command<'a>(
+    alloc: Global,
+    words: &'a [String],
+) -> Result<Option<Command<'a>>, AllocError>
+    ensures value { IfOk result (λ c. option_map seen c ≡ command_of (map string_bytes words.entry.now)) }
+    ensures some { IfOk result (λ c. IfSome c (λ x. IsInRange (seen x))) }
+{
+    let texts = texts_of(alloc, words)?;
+    match command_of(alloc, &texts)? {
+        None => Ok(None),
+        Some(_) => command_of(alloc, &part(alloc, words)?),
+    }
+}
+
+// The texts of words.
+fn texts_of<'a>(alloc: Global, words: &'a [String]) -> Result<Vec<&'a str>, AllocError>
+    ensures { IfOk result (λ known. texts known.items ≡ map string_bytes words.entry.now) }
+{
+    let mut known = Vec::new(alloc);
+    for word in words {
+        known.push(word.as_str())?;
+    }
+    Ok(known)
+}
+
+// The command that these words are.
 #[tactic(auto, unfolding(crate::specs::Command::command_of))]
-/// The command that the words are; None where they are none.
-pub(crate) fn read_command(alloc: Global, words: &[String]) -> Result<Option<Command>, AllocError>
-    ensures value { IfOk result (λ c. c ≡ command_of (map string_bytes words.now)) }
-    ensures some { IfOk result (λ c. IfSome c IsInRange) }
+fn command_of<'a>(alloc: Global, words: &[&'a str]) -> Result<Option<Command<'a>>, AllocError>
+    ensures value { IfOk result (λ c. option_map seen c ≡ command_of (texts words.now)) }
+    ensures some { IfOk result (λ c. IfSome c (λ x. IsInRange (seen x))) }
+{
+    if any_begins_with_dash(words) {
+        Ok(None)
+    } else {
+        command_of_plain(alloc, words)
+    }
+}
+
+// Whether any of these words begins with `-`.
+fn any_begins_with_dash(words: &[&str]) -> bool
+    ensures { result ≡ list_any begins_with_dash (texts words.now) }
+{
+    for word in words {
+        if begins_with_dash(*word) {
+            return true;
+        }
+    }
+    false
+}
+
+// Whether a word begins with `-`.
+fn begins_with_dash(word: &str) -> bool
+    ensures { result ≡ begins_with_dash word.now }
+{
+    match word.as_bytes() {
+        [] => false,
+        [byte, ..] => *byte == b'-',
+    }
+}
+
+// The command that these words are, none of which begins with `-`.
+fn command_of_plain<'a>(alloc: Global, words: &[&'a str]) -> Result<Option<Command<'a>>, AllocError>
+    ensures value { IfOk result (λ c. option_map seen c ≡ command_of_plain (texts words.now)) }
+    ensures some { IfOk result (λ c. IfSome c (λ x. IsInRange (seen x))) }
 {
     match words {
+        [name, script] => {
+            if *name == "audit" {
+                Ok(Some(Command::Audit { script: *script }))
+            } else {
+                Ok(None)
+            }
+        }
         [name, first, second] => {
-            if name.as_str() == "one" {
-                read_one(alloc, first.as_str(), second.as_str())
-            } else if name.as_str() == "make" {
-                Ok(read_make(first.as_str(), second.as_str()))
+            if *name == "one" {
+                read_one(alloc, *first, *second)
+            } else if *name == "make" {
+                Ok(read_make(*first, *second))
             } else {
                 Ok(None)
             }
@@ -46,9 +121,9 @@ pub(crate) fn read_command(alloc: Global, words: &[String]) -> Result<Option<Com
 }
 
 // The command `one` with these words.
-fn read_one(alloc: Global, vip: &str, servers: &str) -> Result<Option<Command>, AllocError>
-    ensures value { IfOk result (λ c. c ≡ one_of vip.now servers.now) }
-    ensures some { IfOk result (λ c. IfSome c IsInRange) }
+fn read_one<'a>(alloc: Global, vip: &str, servers: &str) -> Result<Option<Command<'a>>, AllocError>
+    ensures value { IfOk result (λ c. option_map seen c ≡ one_of vip.now servers.now) }
+    ensures some { IfOk result (λ c. IfSome c (λ x. IsInRange (seen x))) }
 {
     let Some(vip) = address(vip) else {
         return Ok(None);
@@ -60,9 +135,9 @@ fn read_one(alloc: Global, vip: &str, servers: &str) -> Result<Option<Command>, 
 }
 
 // The command `make` with these words.
-fn read_make(number: &str, packets: &str) -> Option<Command>
-    ensures value { result ≡ make_of number.now packets.now }
-    ensures some { IfSome result IsInRange }
+fn read_make<'a>(number: &str, packets: &str) -> Option<Command<'a>>
+    ensures value { option_map seen result ≡ make_of number.now packets.now }
+    ensures some { IfSome result (λ x. IsInRange (seen x)) }
 {
     let number = number_of(number)?;
     let packets = count_of_packets(packets)?;

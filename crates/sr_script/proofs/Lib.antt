@@ -8,3 +8,4 @@ pub mod LawChanges
 pub mod Law
 pub mod NotToml
 pub mod Parsing
+pub mod Fitting

@@ -1,5 +1,6 @@
 pub mod Address
 pub mod Fault
+pub mod Fitting
 pub mod Judge
 pub mod Path
 pub mod Schema

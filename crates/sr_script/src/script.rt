@@ -1,5 +1,6 @@
 ghost use Rattle.std.specs.Prelude.{◌≡◌, IfOk};
 ghost use Rattle.sr_script.specs.Fault.{Answers};
+ghost use Rattle.sr_script.specs.Fitting.{IsFitting};
 ghost use Rattle.sr_script.specs.Script.{spelled, Parses, IsSpelled, TakesScripts, NotTomlIsTrue};
 ghost use Rattle.sr_script.specs.Walk.{script_in};
 ghost use Rattle.toml.specs.View.{table_view};
@@ -31,7 +32,7 @@ pub struct Script {
 }
 
 /// The script that a text is, or the first fault of the walk through it. Memory may run out on any text that isn't blank.
-#[tactic(auto, using(crate::proofs::Parsing::parses_spelled, crate::proofs::Parsing::parses_takes, crate::proofs::Parsing::parses_not_toml))]
+#[tactic(auto, using(crate::proofs::Parsing::parses_spelled, crate::proofs::Parsing::parses_takes, crate::proofs::Parsing::parses_not_toml, crate::proofs::Fitting::parses_fitting))]
 pub fn parse(alloc: Global, bytes: &[u8]) -> Result<Script, ParseRefusal>
     // The script of a good tree, and else the first fault of the walk through it, or that there is no tree.
     ensures walk { Parses bytes.now result }
@@ -39,6 +40,8 @@ pub fn parse(alloc: Global, bytes: &[u8]) -> Result<Script, ParseRefusal>
     ensures schema { IfOk result (IsSpelled bytes.now) }
     ensures takes { TakesScripts bytes.now result }
     ensures not_toml { NotTomlIsTrue bytes.now result }
+    // A script's numbers are those of a layout.
+    ensures fitting { IfOk result (λ s. IsFitting (spelled s)) }
 {
     read(alloc, bytes)
 }

@@ -114,7 +114,6 @@ impl Shadow {
     pub fn count(&self, vip: u8, version: Version) -> u64
         ensures { result ≡ count_of vip version self.now.entries }
     {
-        let bits = version.number();
         if vip < 16 {
             self.counts.count(vip, version)
         } else {

@@ -1,10 +1,12 @@
 //! The worked row of the book, and a long run of calls beside a plain list.
 
-ghost use Rattle.std.specs.Prelude.{◌<◌, ◌≤◌};
+ghost use Rattle.std.specs.Prelude.{◌≡◌, ◌<◌, true, None};
+ghost use Rattle.sr_shadow.specs.Book.{CanLeave, CanSettle, CanSweep, holder_of};
 
 use crate::{Shadow, Took};
 use plain::Plain;
 use sr_base::{Key, Layout, Place, Shape, Version};
+use std::alloc::{AllocError, Global};
 use std::test::Fail;
 
 mod plain;
@@ -99,30 +101,66 @@ fn a_long_run_is_as_on_a_plain_list(rt: HostRuntime) -> Result<(), Fail> {
     let mut book = Shadow::new(alloc, &layout)?;
     let mut plain = Plain::new(alloc);
     let mut state: u64 = 7;
-    for _ in 0..2000u32 {
+    for number in 0..2000u32 {
         let key = draw_key(&mut state);
         let place = draw_place(&mut state);
-        match draw(&mut state, 9) {
-            0 | 1 | 2 => {
-                let chosen = version(draw(&mut state, 3) as u8);
-                assert!(rt; book.taken() < 1 << 56);
-                assert_eq!(rt; book.take(alloc, key, chosen)?, plain.take(key, chosen)?);
-            }
-            3 | 4 => settle_both(&mut book, &mut plain, key, place),
-            5 => leave_both(&mut book, &mut plain, key),
-            6 => sweep_both(&mut book, &mut plain, key, draw(&mut state, 2) == 0),
-            7 => {
-                let known = close_plain(&mut plain, key);
-                assert_eq!(rt; book.close(key), known);
-            }
-            _ => {
-                assert_eq!(rt; book.retire(key), plain.get(key));
-                plain.retire(key);
-            }
-        }
-        assert!(rt; look_alike(&book, &plain, &layout, key, place, draw(&mut state, 700)));
+        let answers = call_both(alloc, &mut book, &mut plain, key, place, &mut state)?;
+        assert!(rt; answers, "the answer of call {number}");
+        assert!(rt;
+            same_entries(&book, &plain),
+            "the entries after call {number}"
+        );
+        assert!(rt;
+            same_finds(&book, &plain, key, draw(&mut state, 700)),
+            "what is found after call {number}"
+        );
+        assert!(rt;
+            same_indexes(&book, &plain, &layout, key, place),
+            "the indexes after call {number}"
+        );
     }
     Ok(())
+}
+
+// One call of both; whether they answer alike.
+fn call_both(
+    alloc: Global,
+    book: &mut Shadow,
+    plain: &mut Plain,
+    key: Key,
+    place: Place,
+    state: &mut u64,
+) -> Result<bool, AllocError> {
+    match draw(state, 9) {
+        0 | 1 | 2 => take_both(alloc, book, plain, key, version(draw(state, 3) as u8)),
+        3 | 4 => Ok(settle_both(book, plain, key, place)),
+        5 => Ok(leave_both(book, plain, key)),
+        6 => Ok(sweep_both(book, plain, key, draw(state, 2) == 0)),
+        7 => Ok(book.close(key) == close_plain(plain, key)),
+        _ => Ok(retire_both(book, plain, key)),
+    }
+}
+
+// Takes the key in both.
+fn take_both(
+    alloc: Global,
+    book: &mut Shadow,
+    plain: &mut Plain,
+    key: Key,
+    version: Version,
+) -> Result<bool, AllocError> {
+    if book.taken() >= 1 << 56 {
+        return Ok(false);
+    }
+    let took = book.take(alloc, key, version)?;
+    Ok(took == plain.take(key, version)?)
+}
+
+// Retires the key in both.
+fn retire_both(book: &mut Shadow, plain: &mut Plain, key: Key) -> bool {
+    let known = plain.get(key);
+    plain.retire(key);
+    book.retire(key) == known
 }
 
 // Closes the key in the plain list; whether it is registered.
@@ -138,92 +176,111 @@ fn close_plain(plain: &mut Plain, key: Key) -> bool {
 }
 
 // Settles the key in both, where it may be.
-fn settle_both(book: &mut Shadow, plain: &mut Plain, key: Key, place: Place) {
-    if book.holder(place).is_some() {
-        return;
-    }
-    match book.get(key) {
-        Some(entry) => {
-            if entry.also.is_some() {
-                return;
-            }
-        }
-        None => return,
+fn settle_both(book: &mut Shadow, plain: &mut Plain, key: Key, place: Place) -> bool {
+    if !may_settle(book, key, place) {
+        return true;
     }
     book.settle(key, place);
-    if let Some(mut entry) = plain.get(key) {
-        entry.also = entry.place;
-        entry.place = Some(place);
-        entry.quiet = None;
-        plain.put(entry);
+    match plain.get(key) {
+        Some(mut entry) => {
+            entry.also = entry.place;
+            entry.place = Some(place);
+            entry.quiet = None;
+            plain.put(entry);
+            true
+        }
+        None => false,
+    }
+}
+
+fn may_settle(book: &Shadow, key: Key, place: Place) -> bool
+    ensures registered { result ≡ true → CanSettle key book.now.entries }
+    ensures free { result ≡ true → holder_of place book.now.entries ≡ None }
+{
+    match book.get(key) {
+        Some(entry) => entry.also.is_none() && book.holder(place).is_none(),
+        None => false,
     }
 }
 
 // Lets the key leave its other place in both, where it has one.
-fn leave_both(book: &mut Shadow, plain: &mut Plain, key: Key) {
-    match book.get(key) {
-        Some(entry) => {
-            if entry.also.is_none() {
-                return;
-            }
-        }
-        None => return,
+fn leave_both(book: &mut Shadow, plain: &mut Plain, key: Key) -> bool {
+    if !may_leave(book, key) {
+        return true;
     }
     book.leave(key);
-    if let Some(mut entry) = plain.get(key) {
-        entry.also = None;
-        plain.put(entry);
+    match plain.get(key) {
+        Some(mut entry) => {
+            entry.also = None;
+            plain.put(entry);
+            true
+        }
+        None => false,
+    }
+}
+
+fn may_leave(book: &Shadow, key: Key) -> bool
+    ensures { result ≡ true → CanLeave key book.now.entries }
+{
+    match book.get(key) {
+        Some(entry) => entry.also.is_some(),
+        None => false,
     }
 }
 
 // Sweeps the key in both, where it has a place.
-fn sweep_both(book: &mut Shadow, plain: &mut Plain, key: Key, hit: bool) {
-    match book.get(key) {
-        Some(entry) => {
-            if entry.place.is_none() {
-                return;
-            }
-        }
-        None => return,
+fn sweep_both(book: &mut Shadow, plain: &mut Plain, key: Key, hit: bool) -> bool {
+    if !may_sweep(book, key) {
+        return true;
     }
     book.swept(key, hit);
-    if let Some(mut entry) = plain.get(key) {
-        entry.quiet = match entry.quiet {
-            Some(n) => {
-                if hit {
-                    Some(0)
-                } else {
-                    Some(n.saturating_add(1))
-                }
-            }
-            None => Some(0),
-        };
-        plain.put(entry);
+    match plain.get(key) {
+        Some(mut entry) => {
+            entry.quiet = Some(quiet_sweeps(entry.quiet, hit));
+            plain.put(entry);
+            true
+        }
+        None => false,
     }
 }
 
-// Whether both answer alike.
-fn look_alike(
-    book: &Shadow,
-    plain: &Plain,
-    layout: &Layout,
-    key: Key,
-    place: Place,
-    number: u64,
-) -> bool {
-    let lists = book.len() == plain.entries.len() && book.taken() == plain.taken;
-    let entries = book.get(key).copied() == plain.get(key)
+fn may_sweep(book: &Shadow, key: Key) -> bool
+    ensures { result ≡ true → CanSweep key book.now.entries }
+{
+    match book.get(key) {
+        Some(entry) => entry.place.is_some(),
+        None => false,
+    }
+}
+
+fn quiet_sweeps(quiet: Option<u8>, hit: bool) -> u8 {
+    match quiet {
+        Some(_) if hit => 0,
+        Some(n) => n.saturating_add(1),
+        None => 0,
+    }
+}
+
+// Whether both find the same.
+fn same_finds(book: &Shadow, plain: &Plain, key: Key, number: u64) -> bool {
+    book.get(key).copied() == plain.get(key)
         && book.first_pending(number).copied() == plain.first(number, false)
-        && book.first_placed(number).copied() == plain.first(number, true);
-    let indexes = book.holder(place) == plain.holder(place)
+        && book.first_placed(number).copied() == plain.first(number, true)
+}
+
+// Whether the indexes of both answer alike.
+fn same_indexes(book: &Shadow, plain: &Plain, layout: &Layout, key: Key, place: Place) -> bool {
+    book.holder(place) == plain.holder(place)
         && book.clashing(1, key) == plain.clashing(layout, 1, key)
         && book.clashing(2, key) == plain.clashing(layout, 2, key)
-        && book.count(key.vip, version(0)) == plain.count(key.vip, version(0));
-    lists && entries && indexes && same_entries(book, plain)
+        && book.count(key.vip, version(0)) == plain.count(key.vip, version(0))
 }
 
 // Whether the entries are the same, in the same order.
 fn same_entries(book: &Shadow, plain: &Plain) -> bool {
+    if book.len() != plain.entries.len() || book.taken() != plain.taken {
+        return false;
+    }
     for i in 0..plain.entries.len() {
         if book.at(i) != plain.entries.get(i) {
             return false;

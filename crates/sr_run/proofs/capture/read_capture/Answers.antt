@@ -1,7 +1,6 @@
-use Rattle.std.proofs.Common.{subst, sym, ap, ◌∙◌}
-use Rattle.std.specs.Prelude.{Err}
-use Rattle.sr_run.specs.Capture.{Reads, IsFew, IsReadFault}
-use Rattle.sr_run.proofs.CaptureRecords.{reads_header, reads_none, few_none, fault_none}
+use Rattle.std.proofs.Common.{subst, sym}
+use Rattle.sr_run.specs.Capture.{Reads}
+use Rattle.sr_run.proofs.CaptureRecords.{reads_header, reads_none}
 use Rattle.sr_run.proofs.capture.read_capture.Goals as goal
 
 pub returns-in-Ok-clause-capture : goal.returns-in-Ok-clause-capture

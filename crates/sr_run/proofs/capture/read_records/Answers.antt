@@ -1,6 +1,5 @@
-use Rattle.std.proofs.Common.{◌≡◌, ◌+◌, length, ap, sym, subst, ◌∙◌, refl, arith, List, ℕ, [], ◌∷◌}
+use Rattle.std.proofs.Common.{◌≡◌, ◌+◌, length, ap, subst, ◌∙◌, refl, arith, List, ℕ, [], ◌∷◌}
 use Rattle.sr_frame.specs.Frame.{seen}
-use Rattle.sr_pcap.specs.declared.next.Next.TheVariants.{Whole}
 use Rattle.sr_pcap.specs.Reader.{Answers, TakesRecord}
 use Rattle.sr_run.proofs.CaptureRecords.{reached_none, reached_kept, no_room, no_whole, reads_on, few_read, fault_read}
 use Rattle.sr_run.proofs.capture.read_records.Goals as goal

@@ -1,7 +1,7 @@
-use Rattle.std.proofs.Common.{◌+◌, drop, arith, subst, ap, ◌∙◌}
+use Rattle.std.proofs.Common.{◌+◌, drop, arith, subst}
 use Rattle.std.specs.List.{flat_map}
 use Rattle.sr_text.specs.LineText.{line_text}
-use Rattle.sr_run.specs.One.{packet_line, packet_lines}
+use Rattle.sr_run.specs.One.{packet_lines}
 use Rattle.sr_io.specs.Sink.{Adds, AddsFront}
 use Rattle.sr_run.proofs.PrintedLines.{packets_step}
 use Rattle.sr_io.proofs.Writing.{Wrote, wrote_more, wrote_failed}

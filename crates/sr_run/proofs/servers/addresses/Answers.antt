@@ -1,4 +1,4 @@
-use Rattle.std.proofs.Common.{◌≡◌, ◌==◌, ap, sym, ◌∙◌, rules, lit<, [], Some, append-nil}
+use Rattle.std.proofs.Common.{◌==◌, ap, sym, ◌∙◌, rules, lit<, [], Some, append-nil}
 use Rattle.std.specs.List.{slice_split}
 use Rattle.std.proofs.lemmas.Str.Pattern.{split_once_first}
 use Rattle.sr_run.specs.Servers.{addresses_of}

@@ -1,0 +1,26 @@
+ghost use Rattle.std.specs.Prelude.{◌≡◌};
+ghost use Rattle.sr_text.specs.declared.log_refusal.LogRefusal.TheVariants.{Memory};
+
+use std::alloc::AllocError;
+
+/// Why a log can't be read.
+#[derive(Clone, Copy, Debug, PartialEq, Eq)]
+pub enum LogRefusal {
+    /// A line isn't one of the grammar, or follows 33,554,432 lines.
+    BadLine {
+        /// The number of the first such line, from 1.
+        number: u64,
+    },
+    /// The source failed.
+    ReadFault,
+    /// No memory was found.
+    Memory,
+}
+
+impl From<AllocError> for LogRefusal {
+    ghost from_gives = { λ _ e. e ≡ Memory };
+
+    fn from(_: AllocError) -> LogRefusal {
+        LogRefusal::Memory
+    }
+}
