@@ -1,0 +1,7 @@
+mod Clearing
+mod Holding
+mod Later
+mod Moving
+mod NewEntry
+mod PlannedSlot
+mod Usable
