@@ -36,6 +36,7 @@ found_any p q (x ∷ xs) e h t = by (p x) (λ f. found_any p q xs e f t) h
     either : (a b : Bool) → b ≡ true → (a || b) ≡ true
     either true b e = refl
     either false b e = e
+
     by : (b : Bool) → (find p xs ≡ Some e → list_any q xs ≡ true) → cond b (Some x) (find p xs) ≡ Some e → (q x || list_any q xs) ≡ true
     by true more h = ap (λ b. b || list_any q xs) (subst (λ y. q y ≡ true) (sym (some_same x e h)) t)
     by false more h = either (q x) (list_any q xs) (more h)
@@ -132,6 +133,7 @@ kept_own place key es e h = by (entry_for key es) refl h
     keep : (b : Bool) (x : Entry) → cond b (Some x) None ≡ Some e → x ≡ e
     keep true x h = some_same x e h
     keep false x h = absurd cc
+
     by : (o : Option Entry) → entry_for key es ≡ o → if_at place o ≡ Some e → entry_for e.key es ≡ Some e
     by None o h = absurd cc
     by (Some x) o h = own_found key es e (o ∙ ap Some (keep (is_at place x.place) x h))

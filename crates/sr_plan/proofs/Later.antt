@@ -47,9 +47,11 @@ move_kind_from shape es key (Slot way bucket cell) = by (entry_at (Slot way buck
     last b k from to None = tt
     last true k from to (Some p) = refl
     last false k from to (Some p) = tt
+
     there : (k : KeyView) (from : Place) (o : Option Place) → IsOf moves (move_to shape es key k from o)
     there k from None = tt
     there k from (Some to) = last (is_clear_but shape es key k) k from to (slot_then shape es key k to)
+
     by : (o : Option Entry) → IsOf moves (move_at shape es key way (Slot way bucket cell) o)
     by None = tt
     by (Some e) = there e.key (Slot way bucket cell) (target shape es key e.key (other_way way))

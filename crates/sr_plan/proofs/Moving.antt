@@ -42,11 +42,13 @@ moved_any (e ∷ es) other to place = by (is_of other e) (moved_any es other to 
     joined true false a = refl
     joined false true a = refl
     joined false false a = refl
+
     apart : (h r s a : Bool) → (h || ((r && s) || a)) ≡ (((false || r) && s) || (h || a))
     apart true true true a = refl
     apart true true false a = refl
     apart true false s a = refl
     apart false r s a = refl
+
     by : (b : Bool) → list_any (holds place) (with_moved other to es) ≡ ((is_registered other es && same_place place to) || list_any (holds_but other place) es)
         → (holds place (cond b (moved to e) e) || list_any (holds place) (with_moved other to es)) ≡ (((b || is_registered other es) && same_place place to) || ((not b && holds place e) || list_any (holds_but other place) es))
     by true more = ap (λ r. (same_place place to || false) || r) more ∙ joined (same_place place to) (is_registered other es) (list_any (holds_but other place) es)
@@ -73,9 +75,11 @@ alone place (x ∷ xs) e other once h own = by (holds place x) refl (λ few f. a
     off : (o b : Bool) → o ≡ true → ((not o && true) || b) ≡ b
     off true b s = refl
     off false b s = absurd cc
+
     none : (o b : Bool) → ((not o && false) || b) ≡ b
     none true b = refl
     none false b = refl
+
     by : (b : Bool) → holds place x ≡ b → (sum_by (times_held place) xs ≤ 1 → find (holds place) xs ≡ Some e → list_any (holds_but other place) xs ≡ false) → cond b (Some x) (find (holds place) xs) ≡ Some e
         → ((not (is_of other x) && holds place x) || list_any (holds_but other place) xs) ≡ false
     by true s more h =
@@ -102,6 +106,7 @@ nobody place (x ∷ xs) other h = by (holds place x) refl (nobody place xs other
     none : (o b : Bool) → ((not o && false) || b) ≡ b
     none true b = refl
     none false b = refl
+
     by : (b : Bool) → holds place x ≡ b → (find (holds place) xs ≡ None → list_any (holds_but other place) xs ≡ false) → cond b (Some x) (find (holds place) xs) ≡ None
         → ((not (is_of other x) && holds place x) || list_any (holds_but other place) xs) ≡ false
     by true s more h = absurd cc
@@ -114,6 +119,7 @@ others_hold place es other once = by (find (holds place) es) refl
     own : (e : Entry) (b : Bool) → is_of other e ≡ b → find (holds place) es ≡ Some e → list_any (holds_but other place) es ≡ not b
     own e true t f = alone place es e other (once place) f t
     own e false t f = not_alone place es e other f t
+
     by : (f : Option Entry) → find (holds place) es ≡ f → list_any (holds_but other place) es ≡ not (is_nobody_else (option_map (λ e. e.key) f) other)
     by None f = nobody place es other f
     by (Some e) f = own e (is_of other e) refl f
@@ -157,7 +163,7 @@ moved_rivals shape way key (x ∷ xs) e to s d own out = by (is_of e.key x) refl
         let none : is_registered e.key xs ≡ false = subst (λ y. is_registered y xs ≡ false) (sym k) d.0 in
         let before : is_outside x ≡ true = subst (λ y. is_outside y ≡ true) (sym it) out in
         let same : is_rival shape way key (moved to x) ≡ is_rival shape way key x =
-            ap (λ b. b && (not (is_of key x) && clashes shape way key x.key)) (moved_outside x to s ∙ sym before) in
+        ap (λ b. b && (not (is_of key x) && clashes shape way key x.key)) (moved_outside x to s ∙ sym before) in
         let rest : is_clashing shape way key (with_moved e.key to xs) ≡ is_clashing shape way key xs = ap (is_clashing shape way key) (changed_none (moved to) e.key xs none) in
         ap (λ b. b || is_clashing shape way key (with_moved e.key to xs)) same ∙ ap (λ b. is_rival shape way key x || b) rest
     by false t more own = ap (λ b. is_rival shape way key x || b) (more own)
@@ -196,11 +202,14 @@ own_rival shape way k key (e ∷ es) u r apart c = by (is_of key e) (is_placed e
     either : (a b : Bool) → b ≡ true → (a || b) ≡ true
     either true b t = refl
     either false b t = t
+
     outside : (p : Option Place) → is_some p ≡ false → not (is_row p) ≡ true
     outside None n = refl
     outside (Some p) n = absurd cc
+
     all : (a b d : Bool) → a ≡ true → b ≡ false → d ≡ true → (a && (not b && d)) ≡ true
     all a b d ea eb ed = rw (ea, eb, ed) refl
+
     by : (b p : Bool) → is_of key e ≡ b → is_placed e ≡ p → (IsUnplaced key es → is_registered key es ≡ true → is_clashing shape way k es ≡ true) → ((b && p) || list_any (λ x. is_of key x && is_placed x) es) ≡ false → (b || is_registered key es) ≡ true
         → (is_rival shape way k e || is_clashing shape way k es) ≡ true
     by true true s t more u r = absurd cc
@@ -218,12 +227,15 @@ counted_rivals shape way k key es u apart = by (is_registered key es) refl
     orf : (a : Bool) → (a || false) ≡ a
     orf true = refl
     orf false = refl
+
     fresh_rival : (b d : Bool) → b ≡ false → ((true && (not b && d)) || false) ≡ d
     fresh_rival true d e = absurd cc
     fresh_rival false d e = orf d
+
     clash : (c : Bool) → clashes shape way k key ≡ c → is_registered key es ≡ true → is_clashing shape way k es ≡ (is_clashing shape way k es || c)
     clash true e r = own_rival shape way k key es u r apart e ∙ sym (ap (λ b. b || true) (own_rival shape way k key es u r apart e))
     clash false e r = sym (orf (is_clashing shape way k es))
+
     by : (b : Bool) → is_registered key es ≡ b → is_clashing shape way k (cond b es (es ++ fresh key 0 0 ∷ [])) ≡ (is_clashing shape way k es || clashes shape way k key)
     by true r = clash (clashes shape way k key) refl r
     by false r =
@@ -241,7 +253,7 @@ target_slot shape es key e way u mover =
     usable_slot shape (with_key key es) e.key way _
     ∙ ap (λ c. cond c None (find (is_free (with_key key es)) (slots_of shape way e.key))) (counted_rivals shape way e.key key es u mover.other)
     ∙ ap (λ r. cond (is_clashing shape way e.key es || clashes shape way e.key key) None r)
-        (find_alike (is_free (with_key key es)) (is_free es) (slots_of shape way e.key) (λ place. ap is_none (counted_holder place es key)))
+    (find_alike (is_free (with_key key es)) (is_free es) (slots_of shape way e.key) (λ place. ap is_none (counted_holder place es key)))
 
 -- a slot that is found is a slot
 pub found_slot : (p : Place → Bool) (way bucket : ℕ) (to : Place) → find p (slots_in way bucket) ≡ Some to → is_slot to ≡ true
@@ -249,6 +261,7 @@ found_slot p way bucket to h = by (p (Slot way bucket 0)) (p (Slot way bucket 1)
   where
     it : (a b : Place) → Some a ≡ Some b → a ≡ b
     it a b e = grind arith
+
     by : (a b c d : Bool) → cond a (Some (Slot way bucket 0)) (cond b (Some (Slot way bucket 1)) (cond c (Some (Slot way bucket 2)) (cond d (Some (Slot way bucket 3)) None))) ≡ Some to → is_slot to ≡ true
     by true b c d h = sym (ap is_slot (it _ _ h))
     by false true c d h = sym (ap is_slot (it _ _ h))
@@ -262,15 +275,19 @@ slot_mover es key e way bucket cell u found own = record { own = own; outside = 
   where
     at : is_at (Slot way bucket cell) e.place ≡ true
     at = found_passes (λ x. is_at (Slot way bucket cell) x.place) es e found
+
     outside : (p : Option Place) → is_at (Slot way bucket cell) p ≡ true → not (is_row p) ≡ true
     outside None t = absurd cc
     outside (Some (Slot w b c)) t = refl
     outside (Some (Row row)) t = absurd cc
+
     placed : (p : Option Place) → is_at (Slot way bucket cell) p ≡ true → is_some p ≡ true
     placed None t = absurd cc
     placed (Some p) t = refl
+
     both : (a b : Bool) → a ≡ true → b ≡ true → (a && b) ≡ true
     both a b ea eb = rw (ea, eb) refl
+
     apart : (b : Bool) → same_key e.key key ≡ b → b ≡ false
     apart true t =
         let mine : is_of key e ≡ true = same_key-sym key e.key ∙ t in

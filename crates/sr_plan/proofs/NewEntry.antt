@@ -87,9 +87,11 @@ usable_before shape es key k v n (Slot way bucket cell) h =
     never true true e h = true≢false (sym h)
     never true false e h = absurd cc
     never false c e h = true≢false (sym h)
+
     first : (a c : Bool) → (a && not c) ≡ true → (a && true) ≡ true
     first true c h = refl
     first false c h = h
+
     by : (b : Bool) → is_clashing shape way key es ≡ b → (is_free es (Slot way bucket cell) && not (is_clashing shape way key (es ++ fresh k v n ∷ []))) ≡ true → (is_free es (Slot way bucket cell) && not b) ≡ true
     by true c h = absurd (never (is_free es (Slot way bucket cell)) (is_clashing shape way key (es ++ fresh k v n ∷ [])) (clash_more shape way key es (fresh k v n ∷ []) c) h)
     by false c h = first (is_free es (Slot way bucket cell)) (is_clashing shape way key (es ++ fresh k v n ∷ [])) h
@@ -103,6 +105,7 @@ slot_none shape es key k v n h = by (is_clear shape es key) (first_usable shape 
     unclear : (o : Option Place) → slot_if_clear false o ≡ None
     unclear None = refl
     unclear (Some p) = refl
+
     by : (c : Bool) (o : Option Place) → is_clear shape es key ≡ c → first_usable shape es key (key_slots shape key) ≡ o → slot_if_clear c o ≡ None → slot_plan shape (es ++ fresh k v n ∷ []) key ≡ None
     by c None e f h = ap (slot_if_clear (is_clear shape (es ++ fresh k v n ∷ []) key)) (usable_none shape es key k v n (key_slots shape key) f)
     by true (Some p) e f h = absurd cc
@@ -125,6 +128,7 @@ counted_clash shape way other key k es v n apart c =
     between true b d h = refl
     between false true d h = refl
     between false false d h = h
+
     by : (b : Bool) → is_clashing shape way other (cond b es (es ++ fresh key 0 0 ∷ [])) ≡ true → is_clashing shape way other (cond b (es ++ fresh k v n ∷ []) ((es ++ fresh k v n ∷ []) ++ fresh key 0 0 ∷ [])) ≡ true
     by true c = clash_more shape way other es (fresh k v n ∷ []) c
     by false c =
@@ -151,9 +155,11 @@ target_more shape es key other k v n way apart = by (is_clashing shape way other
   where
     new : List Entry
     new = es ++ fresh k v n ∷ []
+
     free : find (is_free (with_key key new)) (slots_in way (bucket_of way other shape.buckets)) ≡ find (is_free (with_key key es)) (slots_in way (bucket_of way other shape.buckets))
     free = find_alike (is_free (with_key key new)) (is_free (with_key key es)) (slots_in way (bucket_of way other shape.buckets))
         (λ place. counted_free place key new ∙ (free_more es k v n place ∙ sym (counted_free place key es)))
+
     by : (a b : Bool) → is_clashing shape way other (with_key key new) ≡ a → is_clashing shape way other (with_key key es) ≡ b
         → (target shape new key other way ≡ None) ⊎ (target shape new key other way ≡ target shape es key other way)
     by true b e f = inl (usable_slot shape (with_key key new) other way (bucket_of way other shape.buckets) ∙ ap (λ c. cond c None (find (is_free (with_key key new)) (slots_in way (bucket_of way other shape.buckets)))) e)
@@ -177,19 +183,22 @@ move_none_of : (shape : Shape) (es : List Entry) (key other k : KeyView) (v n wa
 move_none_of shape es key other k v n way from apart far h = elim (target_more shape es key other k v n way apart) [
   | inl none ↦ ap (move_to shape new key other from) none
   | inr same ↦ ap (move_to shape new key other from) same ∙ by (target shape es key other way) h
-  ]
+]
   where
     new : List Entry
     new = es ++ fresh k v n ∷ []
+
     unclear : (to : Place) (o : Option Place) → move_if_clear false other from to o ≡ None
     unclear to None = refl
     unclear to (Some p) = refl
+
     last : (to : Place) (c : Bool) (o : Option Place) → is_clear_but shape es key other ≡ c → slot_then shape es key other to ≡ o → move_if_clear c other from to o ≡ None
         → move_if_clear (is_clear_but shape new key other) other from to (slot_then shape new key other to) ≡ None
     last to c None e f h = ap (move_if_clear (is_clear_but shape new key other) other from to) (then_none shape es key other k to v n far f)
     last to true (Some p) e f h = absurd cc
     last to false (Some p) e f h =
         ap (λ b. move_if_clear b other from to (slot_then shape new key other to)) (clear_but_more shape es key other k v n ∙ e) ∙ unclear to (slot_then shape new key other to)
+
     by : (o : Option Place) → move_to shape es key other from o ≡ None → move_to shape new key other from o ≡ None
     by None h = refl
     by (Some to) h = last to (is_clear_but shape es key other) (slot_then shape es key other to) refl refl h
@@ -203,6 +212,7 @@ move_none_from shape es key k v n (Slot way bucket cell) apart new h =
     far : (e : Entry) → entry_at (Slot way bucket cell) es ≡ Some e → (b : Bool) → same_key e.key k ≡ b → b ≡ false
     far e f true s = absurd (true≢false (sym (found_any (λ x. is_at (Slot way bucket cell) x.place) (is_of k) es e f (same_key-sym k e.key ∙ s)) ∙ new))
     far e f false s = refl
+
     by : (o : Option Entry) → entry_at (Slot way bucket cell) es ≡ o → move_at shape es key way (Slot way bucket cell) o ≡ None → move_at shape (es ++ fresh k v n ∷ []) key way (Slot way bucket cell) o ≡ None
     by None f h = refl
     by (Some e) f h = move_none_of shape es key e.key k v n (other_way way) (Slot way bucket cell) apart (far e f (same_key e.key k) refl) h

@@ -59,6 +59,7 @@ own_clear shape key place (x ∷ xs) h = by (is_of key x) refl (own_clear shape 
     shut : (o c : Bool) → o ≡ true → (not o && c) ≡ false
     shut true c e = refl
     shut false c e = absurd cc
+
     by : (b : Bool) → is_of key x ≡ b → list_any (is_mistaken shape key) (with_changed (settled place) key xs) ≡ false
         → (is_mistaken shape key (cond b (settled place x) x) || list_any (is_mistaken shape key) (with_changed (settled place) key xs)) ≡ false
     by true t more = ap (λ b. b || list_any (is_mistaken shape key) (with_changed (settled place) key xs)) (shut (is_of key x) (clashes_at shape key x.key (Some place)) t) ∙ more
@@ -73,12 +74,13 @@ other_clear shape k key place (x ∷ xs) apart h = by (is_of key x) refl (other_
     shut : (o c : Bool) → c ≡ false → (not o && c) ≡ false
     shut true c e = refl
     shut false c e = e
+
     by : (b : Bool) → is_of key x ≡ b → list_any (is_mistaken shape k) (with_changed (settled place) key xs) ≡ false
         → (is_mistaken shape k (cond b (settled place x) x) || list_any (is_mistaken shape k) (with_changed (settled place) key xs)) ≡ false
     by true t more =
         let own : key ≡ x.key = same_key-true key x.key t in
         ap (λ b. b || list_any (is_mistaken shape k) (with_changed (settled place) key xs))
-            (shut (is_of k x) (clashes_at shape k x.key (Some place)) (subst (λ y. clashes_at shape k y (Some place) ≡ false) own apart)) ∙ more
+        (shut (is_of k x) (clashes_at shape k x.key (Some place)) (subst (λ y. clashes_at shape k y (Some place) ≡ false) own apart)) ∙ more
     by false t more = ap (λ b. b || list_any (is_mistaken shape k) (with_changed (settled place) key xs)) (either_false (is_mistaken shape k x) (list_any (is_mistaken shape k) xs) h).0 ∙ more
 
 -- what a planned slot is
@@ -88,6 +90,7 @@ found_usable p (x ∷ xs) place h = by (p x) refl (found_usable p xs place) h
   where
     it : (a b : Place) → Some a ≡ Some b → a ≡ b
     it a b e = grind arith
+
     by : (b : Bool) → p x ≡ b → (find p xs ≡ Some place → p place ≡ true) → cond b (Some x) (find p xs) ≡ Some place → p place ≡ true
     by true t more h = subst (λ y. p y ≡ true) (it x place h) t
     by false t more h = more h
@@ -97,6 +100,7 @@ planned shape es key place h = by (is_clear shape es key) (first_usable shape es
   where
     it : (a b : Place) → Some (plan.Slot a) ≡ Some (plan.Slot b) → a ≡ b
     it a b e = cc
+
     by : (c : Bool) (o : Option Place) → is_clear shape es key ≡ c → first_usable shape es key (key_slots shape key) ≡ o → slot_if_clear c o ≡ Some (plan.Slot place)
         → (is_clear shape es key ≡ true) × (is_usable shape es key place ≡ true)
     by c None e f h = absurd cc
@@ -116,6 +120,7 @@ apart_there shape es key (Slot way bucket cell) i e usable at out other =
     bare true false c s t h = h
     bare true true c s t h = absurd cc
     bare false b c s t h = absurd cc
+
     shut : (a c : Bool) → c ≡ false → (a && c) ≡ false
     shut true c e = e
     shut false c e = refl
@@ -128,6 +133,7 @@ planned_slot_clear shape es key place h clear i e at out =
     turned : (b : Bool) → b ≡ false → not b ≡ true
     turned true e = absurd cc
     turned false e = refl
+
     of : (x : Entry) (b : Bool) → is_of key x ≡ b → slice_get es i ≡ Some x → cond b (settled place x) x ≡ e → is_clear shape es key ≡ true → is_usable shape es key place ≡ true
         → is_clear shape (with_changed (settled place) key es) e.key ≡ true
     of x true t at it own usable =
@@ -136,7 +142,8 @@ planned_slot_clear shape es key place h clear i e at out =
     of x false t at it own usable =
         let outside : is_outside x ≡ true = subst (λ y. is_outside y ≡ true) (sym it) out in
         subst (λ y. is_clear shape (with_changed (settled place) key es) y.key ≡ true) it
-            (turned _ (other_clear shape x.key key place es (apart_there shape es key place i x usable at outside t) (not_true _ (clear i x at t outside))))
+        (turned _ (other_clear shape x.key key place es (apart_there shape es key place i x usable at outside t) (not_true _ (clear i x at t outside))))
+
     by : (o : Option Entry) → slice_get es i ≡ o → option_map (λ x. cond (is_of key x) (settled place x) x) o ≡ Some e → is_clear shape es key ≡ true → is_usable shape es key place ≡ true
         → is_clear shape (with_changed (settled place) key es) e.key ≡ true
     by None f h own usable = absurd cc

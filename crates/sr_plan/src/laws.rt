@@ -14,20 +14,17 @@ ghost use Rattle.sr_shadow.specs.declared.plan.Plan.TheVariants as plan;
 pub fn later_ways()
     ensures full_key { (shape : Shape) (es : List Entry) (key : KeyView) (row : ℕ) → first_plan shape es key ≡ plan.FullKey row → (slot_plan shape es key ≡ None) × (move_plan shape es key ≡ None) }
     ensures no_room { (shape : Shape) (es : List Entry) (key : KeyView) → first_plan shape es key ≡ plan.NoRoom → (slot_plan shape es key ≡ None) × (move_plan shape es key ≡ None) × (row_plan shape es key ≡ None) }
-{
-}
+{}
 
 /// A key that has no plan has none after another one was taken: a new entry never makes room.
 pub fn taking_makes_no_room()
     ensures { (shape : Shape) (es : List Entry) (key other : KeyView) (version number : ℕ) → same_key key other ≡ false → is_registered other es ≡ false
         → first_plan shape es key ≡ plan.NoRoom → first_plan shape (es ++ fresh other version number ∷ []) key ≡ plan.NoRoom }
-{
-}
+{}
 
 /// Where packets of no other registered key outside the full-key table are taken for another connection's, a planned slot leaves it so, and the
 /// same holds of the planned key.
 pub fn slots_stay_apart()
     ensures { (shape : Shape) (es : List Entry) (key : KeyView) (place : Place) → first_plan shape es key ≡ plan.Slot place → AllClearBut key shape es
         → AllClear shape (with_changed (settled place) key es) }
-{
-}
+{}

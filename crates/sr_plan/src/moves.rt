@@ -131,13 +131,7 @@ fn target(shadow: &Shadow, layout: &Layout, key: Key, entry: &Entry, way: u8) ->
 }
 
 // The key's first usable slot with the entry at another place.
-fn slot_then(
-    shadow: &Shadow,
-    layout: &Layout,
-    key: Key,
-    entry: &Entry,
-    to: Place,
-) -> Option<Place>
+fn slot_then(shadow: &Shadow, layout: &Layout, key: Key, entry: &Entry, to: Place) -> Option<Place>
     requires made { shadow.now.layout ≡ layout.now }
     requires mover { IsMover key entry.now shadow.now.entries }
     requires slot { is_slot to ≡ true }

@@ -18,10 +18,26 @@ fn slots_in(way: u8, bucket: u32) -> [Place; 4]
     ensures { result ≡ slots_in way bucket }
 {
     [
-        Place::Slot { way, bucket, cell: 0 },
-        Place::Slot { way, bucket, cell: 1 },
-        Place::Slot { way, bucket, cell: 2 },
-        Place::Slot { way, bucket, cell: 3 },
+        Place::Slot {
+            way,
+            bucket,
+            cell: 0,
+        },
+        Place::Slot {
+            way,
+            bucket,
+            cell: 1,
+        },
+        Place::Slot {
+            way,
+            bucket,
+            cell: 2,
+        },
+        Place::Slot {
+            way,
+            bucket,
+            cell: 3,
+        },
     ]
 }
 
