@@ -1,5 +1,5 @@
 -- Clear keys: the entries that a key's packets are taken for are those that stand in slots and clash with the key there.
-use Rattle.std.proofs.Common.{◌≡◌, ◌==◌, ℕ, ◌+◌, ◌<◌, Bool, true, false, cond, ◌&&◌, ◌||◌, not, List, [], ◌∷◌, count_by, find, Option, None, Some, eqb, ltb, refl, sym, ◌∙◌, ap, subst, arith}
+use Rattle.std.proofs.Common.{◌≡◌, ◌==◌, ℕ, ◌+◌, Bool, true, false, cond, ◌&&◌, ◌||◌, not, List, [], ◌∷◌, count_by, Option, None, Some, eqb, ltb, refl, sym, ap, subst, arith}
 use Rattle.std.proofs.lemmas.Bool.Decides.{nat_tests}
 use Rattle.std.proofs.lemmas.List.Sums.{sum_by-cons}
 use Rattle.std.specs.Prelude.{is_some}
@@ -12,9 +12,10 @@ use Rattle.sr_hash.specs.Clash.{clashes}
 use Rattle.sr_shadow.specs.Book.{entry_for, is_registered, is_stander, standing_of, DistinctKeys}
 use Rattle.sr_shadow.specs.Entry.{is_of, is_placed, is_slot_in}
 use Rattle.sr_shadow.proofs.Splits.{same_key-true}
-use Rattle.sr_shadow.specs.Plan.{clashes_at, is_clear_but, is_mistaken, is_mistaken_but, IsUnplaced}
+use Rattle.sr_shadow.specs.Plan.{clashes_at, is_clear_but, is_mistaken, is_mistaken_but}
 use Rattle.sr_shadow.specs.declared.entry.Entry.{Entry}
 use Rattle.sr_plan.specs.Clear.{mistaken_one}
+use Rattle.sr_plan.specs.Moves.{NonePlaced}
 
 -- the entry is the other key's, and the key's packets are taken for its own
 abbrev is_mistaken_of : Shape → KeyView → KeyView → Entry → Bool
@@ -69,7 +70,7 @@ parted false true = refl
 parted false false = refl
 
 -- those that stand with a clash are those that the key's packets are taken for, the other key's and the rest
-standing_parted : (shape : Shape) (key other : KeyView) (es : List Entry) → IsUnplaced key es
+standing_parted : (shape : Shape) (key other : KeyView) (es : List Entry) → NonePlaced key es
     → standing_of shape 1 key es + standing_of shape 2 key es ≡ count_by (is_mistaken_but shape key other) es + count_by (is_mistaken_of shape key other) es
 standing_parted shape key other [] free = refl
 standing_parted shape key other (e ∷ es) free =
@@ -117,7 +118,7 @@ any_counted test [] = refl
 any_counted test (e ∷ es) = grind (arith, nat_tests, any_counted test es, count_cons test e es)
 
 -- So the key is clear but for the other where no more stand with a clash than the other key's entry.
-pub clear_counted : (shape : Shape) (key other : KeyView) (es : List Entry) → DistinctKeys es → IsUnplaced key es
+pub clear_counted : (shape : Shape) (key other : KeyView) (es : List Entry) → DistinctKeys es → NonePlaced key es
     → eqb (standing_of shape 1 key es + standing_of shape 2 key es) (mistaken_one shape key (entry_for other es)) ≡ is_clear_but shape es key other
 clear_counted shape key other es d free =
     let parts = standing_parted shape key other es free in

@@ -1,16 +1,16 @@
 -- Who holds a place, and whose Live place it is.
-use Rattle.std.proofs.Common.{◌≡◌, ℕ, ◌+◌, ◌≤◌, Bool, true, false, cond, ◌&&◌, ◌||◌, not, List, [], ◌∷◌, find, sum_by, Option, None, Some, option_map, refl, sym, ◌∙◌, ap, subst, true≢false, arith}
-use Rattle.std.specs.Prelude.{IfSome, option_copied}
+use Rattle.std.proofs.Common.{◌≡◌, ◌≤◌, Bool, true, false, cond, ◌&&◌, ◌||◌, List, [], ◌∷◌, find, sum_by, Option, None, Some, option_map, is_some, refl, sym, ◌∙◌, ap, subst, true≢false, arith}
+use Rattle.std.specs.Prelude.{IfSome}
 use Rattle.std.proofs.lemmas.Bool.Decides.{nat_tests}
 use Rattle.std.proofs.lemmas.List.Sums.{sum_by-cons}
 use Rattle.std.specs.List.{list_any}
 use Rattle.sr_base.specs.Key.{KeyView}
 use Rattle.sr_base.specs.declared.place.Place.{Place}
 use Rattle.sr_shadow.specs.Book.{entry_for, holder_of, is_registered, DistinctKeys, HeldOnce}
-use Rattle.sr_shadow.specs.Entry.{holds, is_at, is_of, same_key, times_held}
-use Rattle.sr_shadow.specs.Plan.{entry_at}
+use Rattle.sr_shadow.specs.Entry.{holds, is_at, is_of, is_placed, same_key, times_held}
+use Rattle.sr_shadow.specs.Plan.{entry_at, IsUnplaced}
 use Rattle.sr_shadow.specs.declared.entry.Entry.{Entry}
-use Rattle.sr_plan.specs.Moves.{if_at}
+use Rattle.sr_plan.specs.Moves.{if_at, NonePlaced}
 use Rattle.sr_shadow.proofs.Splits.{same_key-true, same_key-self}
 
 pub same_key-sym : (a b : KeyView) → same_key a b ≡ same_key b a
@@ -137,3 +137,28 @@ kept_own place key es e h = by (entry_for key es) refl h
     by : (o : Option Entry) → entry_for key es ≡ o → if_at place o ≡ Some e → entry_for e.key es ≡ Some e
     by None o h = absurd cc
     by (Some x) o h = own_found key es e (o ∙ ap Some (keep (is_at place x.place) x h))
+
+-- an entry of a key that isn't registered is placed nowhere
+none_there : (key : KeyView) (es : List Entry) → is_registered key es ≡ false → NonePlaced key es
+none_there key [] h = refl
+none_there key (x ∷ xs) h = by (is_of key x) refl h (none_there key xs)
+  where
+    by : (b : Bool) → is_of key x ≡ b → (b || is_registered key xs) ≡ false → (is_registered key xs ≡ false → NonePlaced key xs) → ((is_of key x && is_placed x) || list_any (λ e. is_of key e && is_placed e) xs) ≡ false
+    by true t h more = absurd cc
+    by false t h more = ap (λ b. (b && is_placed x) || list_any (λ e. is_of key e && is_placed e) xs) t ∙ more h
+
+-- where the key's entry has no Live place, no entry of the key has one
+pub none_placed : (key : KeyView) (es : List Entry) → DistinctKeys es → IsUnplaced key es → NonePlaced key es
+none_placed key [] d h = refl
+none_placed key (x ∷ xs) d h = by (is_of key x) refl h (none_placed key xs d.1)
+  where
+    bare : (p : Option Place) → p ≡ None → is_some p ≡ false
+    bare p e = ap is_some e
+
+    by : (b : Bool) → is_of key x ≡ b → IfSome (cond b (Some x) (entry_for key xs)) (λ e. e.place ≡ None) → (IsUnplaced key xs → NonePlaced key xs)
+        → ((is_of key x && is_placed x) || list_any (λ e. is_of key e && is_placed e) xs) ≡ false
+    by true t h more =
+        let k : key ≡ x.key = same_key-true key x.key t in
+        ap (λ b. (is_of key x && b) || list_any (λ e. is_of key e && is_placed e) xs) (bare x.place h)
+        ∙ (ap (λ b. (b && false) || list_any (λ e. is_of key e && is_placed e) xs) t ∙ none_there key xs (subst (λ y. is_registered y xs ≡ false) (sym k) d.0))
+    by false t h more = ap (λ b. (b && is_placed x) || list_any (λ e. is_of key e && is_placed e) xs) t ∙ more h

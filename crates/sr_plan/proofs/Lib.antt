@@ -1,6 +1,7 @@
 mod Clearing
 mod Holding
 mod Later
+mod Listing
 mod Moving
 mod NewEntry
 mod PlannedSlot

@@ -1,21 +1,20 @@
 -- The book with an entry at another place.
-use Rattle.std.proofs.Common.{◌≡◌, ℕ, ◌+◌, ◌≤◌, Bool, true, false, cond, ◌&&◌, ◌||◌, not, List, [], ◌∷◌, ◌++◌, map, find, sum_by, is_none, is_some, Option, None, Some, option_map, refl, sym, ◌∙◌, ap, subst, true≢false, arith}
+use Rattle.std.proofs.Common.{◌≡◌, ℕ, ◌≤◌, Bool, true, false, cond, ◌&&◌, ◌||◌, not, List, [], ◌∷◌, ◌++◌, find, sum_by, is_none, is_some, Option, None, Some, option_map, refl, sym, ◌∙◌, ap, subst, true≢false, arith}
 use Rattle.std.proofs.lemmas.Bool.Decides.{nat_tests}
-use Rattle.std.proofs.lemmas.List.Folds.{find-append, list_any-append}
+use Rattle.std.proofs.lemmas.List.Folds.{list_any-append}
 use Rattle.std.proofs.lemmas.List.Sums.{sum_by-cons}
 use Rattle.std.specs.List.{list_any}
-use Rattle.std.specs.Option.{option_or}
 use Rattle.sr_base.specs.Key.{KeyView}
 use Rattle.sr_base.specs.declared.place.Place.{Place}
 use Rattle.sr_base.specs.declared.place.Place.TheVariants.{Slot, Row}
 use Rattle.sr_base.specs.declared.shape.Shape.{Shape}
 use Rattle.sr_hash.specs.Clash.{clashes}
-use Rattle.sr_shadow.specs.Book.{entry_for, holder_of, is_clashing, is_registered, is_rival, with_changed, DistinctKeys, HeldOnce}
+use Rattle.sr_shadow.specs.Book.{entry_for, holder_of, is_clashing, is_registered, is_rival, DistinctKeys, HeldOnce}
 use Rattle.sr_shadow.specs.Entry.{fresh, holds, is_at, is_of, is_outside, is_placed, is_row, same_key, same_place, times_held}
-use Rattle.sr_shadow.specs.Plan.{IsUnplaced, entry_at, first_usable, is_free, moved, slots_in, slots_of, target, with_key, with_moved}
+use Rattle.sr_shadow.specs.Plan.{entry_at, first_usable, is_free, moved, slots_in, slots_of, target, with_key, with_moved}
 use Rattle.sr_shadow.specs.declared.entry.Entry.{Entry}
 use Rattle.sr_shadow.proofs.Splits.{changed_none, same_key-true}
-use Rattle.sr_plan.specs.Moves.{IsMover, is_nobody_else, is_slot}
+use Rattle.sr_plan.specs.Moves.{IsMover, NonePlaced, is_nobody_else, is_slot}
 use Rattle.sr_plan.proofs.Holding.{found_any, found_passes, none_holds, same_key-sym, some_same}
 use Rattle.sr_plan.proofs.Usable.{usable_slot}
 
@@ -194,7 +193,7 @@ counted_holder place es key = by (is_registered key es)
     by false = no_holder place es key
 
 -- a registered key without a Live place is a rival where it clashes
-own_rival : (shape : Shape) (way : ℕ) (k key : KeyView) (es : List Entry) → IsUnplaced key es → is_registered key es ≡ true → same_key k key ≡ false → clashes shape way k key ≡ true
+own_rival : (shape : Shape) (way : ℕ) (k key : KeyView) (es : List Entry) → NonePlaced key es → is_registered key es ≡ true → same_key k key ≡ false → clashes shape way k key ≡ true
     → is_clashing shape way k es ≡ true
 own_rival shape way k key [] u r apart c = absurd cc
 own_rival shape way k key (e ∷ es) u r apart c = by (is_of key e) (is_placed e) refl refl (λ u r. own_rival shape way k key es u r apart c) u r
@@ -210,7 +209,7 @@ own_rival shape way k key (e ∷ es) u r apart c = by (is_of key e) (is_placed e
     all : (a b d : Bool) → a ≡ true → b ≡ false → d ≡ true → (a && (not b && d)) ≡ true
     all a b d ea eb ed = rw (ea, eb, ed) refl
 
-    by : (b p : Bool) → is_of key e ≡ b → is_placed e ≡ p → (IsUnplaced key es → is_registered key es ≡ true → is_clashing shape way k es ≡ true) → ((b && p) || list_any (λ x. is_of key x && is_placed x) es) ≡ false → (b || is_registered key es) ≡ true
+    by : (b p : Bool) → is_of key e ≡ b → is_placed e ≡ p → (NonePlaced key es → is_registered key es ≡ true → is_clashing shape way k es ≡ true) → ((b && p) || list_any (λ x. is_of key x && is_placed x) es) ≡ false → (b || is_registered key es) ≡ true
         → (is_rival shape way k e || is_clashing shape way k es) ≡ true
     by true true s t more u r = absurd cc
     by true false s t more u r =
@@ -220,7 +219,7 @@ own_rival shape way k key (e ∷ es) u r apart c = by (is_of key e) (is_placed e
         ap (λ b. b || is_clashing shape way k es) (all (is_outside e) (is_of k e) (clashes shape way k e.key) (outside e.place t) other clash)
     by false p s t more u r = either (is_rival shape way k e) (is_clashing shape way k es) (more u r)
 
-counted_rivals : (shape : Shape) (way : ℕ) (k key : KeyView) (es : List Entry) → IsUnplaced key es → same_key k key ≡ false
+counted_rivals : (shape : Shape) (way : ℕ) (k key : KeyView) (es : List Entry) → NonePlaced key es → same_key k key ≡ false
     → is_clashing shape way k (with_key key es) ≡ (is_clashing shape way k es || clashes shape way k key)
 counted_rivals shape way k key es u apart = by (is_registered key es) refl
   where
@@ -247,7 +246,7 @@ find_alike p q [] h = refl
 find_alike p q (x ∷ xs) h = ap (λ b. cond b (Some x) (find p xs)) (h x) ∙ ap (λ r. cond (q x) (Some x) r) (find_alike p q xs h)
 
 -- where an entry may move
-pub target_slot : (shape : Shape) (es : List Entry) (key : KeyView) (e : Entry) (way : ℕ) → IsUnplaced key es → IsMover key e es
+pub target_slot : (shape : Shape) (es : List Entry) (key : KeyView) (e : Entry) (way : ℕ) → NonePlaced key es → IsMover key e es
     → target shape es key e.key way ≡ cond (is_clashing shape way e.key es || clashes shape way e.key key) None (find (is_free es) (slots_of shape way e.key))
 target_slot shape es key e way u mover =
     usable_slot shape (with_key key es) e.key way _
@@ -270,7 +269,7 @@ found_slot p way bucket to h = by (p (Slot way bucket 0)) (p (Slot way bucket 1)
     by false false false false h = absurd cc
 
 -- the entry in a slot may move
-pub slot_mover : (es : List Entry) (key : KeyView) (e : Entry) (way bucket cell : ℕ) → IsUnplaced key es → entry_at (Slot way bucket cell) es ≡ Some e → entry_for e.key es ≡ Some e → IsMover key e es
+pub slot_mover : (es : List Entry) (key : KeyView) (e : Entry) (way bucket cell : ℕ) → NonePlaced key es → entry_at (Slot way bucket cell) es ≡ Some e → entry_for e.key es ≡ Some e → IsMover key e es
 slot_mover es key e way bucket cell u found own = record { own = own; outside = outside e.place at; other = apart (same_key e.key key) refl }
   where
     at : is_at (Slot way bucket cell) e.place ≡ true

@@ -1,6 +1,7 @@
 ghost use Rattle.std.specs.Prelude.{◌≡◌, option_copied};
-ghost use Rattle.sr_shadow.specs.Plan.{clashes_at, is_clear_but, IsUnplaced};
+ghost use Rattle.sr_shadow.specs.Plan.{clashes_at, is_clear_but, is_mistaken_but};
 ghost use Rattle.sr_plan.specs.Clear.{mistaken_one};
+ghost use Rattle.sr_plan.specs.Moves.{NonePlaced};
 
 use crate::slots::same_key;
 use sr_base::{Key, Layout, Place, layout_ranges};
@@ -11,7 +12,7 @@ use sr_shadow::{Entry, Shadow, book_rules};
 // clash with the key there; the key itself stands nowhere.
 pub(crate) fn is_clear_but(shadow: &Shadow, layout: &Layout, key: Key, other: Key) -> bool
     requires made { shadow.now.layout ≡ layout.now }
-    requires unplaced { IsUnplaced key shadow.now.entries }
+    requires unplaced { NonePlaced key shadow.now.entries }
     ensures { result ≡ is_clear_but layout.now.shape shadow.now.entries key other }
 {
     book_rules(shadow);
@@ -33,6 +34,13 @@ fn mistaken_one(layout: &Layout, key: Key, entry: Option<&Entry>) -> u64
         }
         None => 0,
     }
+}
+
+// Whether the key's packets are taken for those of this entry, which isn't the other key's.
+pub(crate) fn is_mistaken_but(layout: &Layout, key: Key, other: Key, entry: &Entry) -> bool
+    ensures { result ≡ is_mistaken_but layout.now.shape key other entry.now }
+{
+    !same_key(other, entry.key) && (!same_key(key, entry.key) && clashes_at(layout, key, entry))
 }
 
 // Whether the entry's Live place is a slot of a way in which its key clashes with this one.

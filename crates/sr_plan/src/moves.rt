@@ -1,9 +1,9 @@
 ghost use Rattle.std.specs.Prelude.{◌≡◌, ◌≤◌, IfSome, Some, true, find, option_copied};
 ghost use Rattle.sr_shadow.specs.Book.{entry_for, holder_of};
 ghost use Rattle.sr_shadow.specs.Entry.{is_at, same_place};
-ghost use Rattle.sr_shadow.specs.Plan.{IsUnplaced, entry_at, first_move, first_usable, is_free, move_from, move_of, other_way, slot_then, slots_of, target, with_moved, move_plan};
+ghost use Rattle.sr_shadow.specs.Plan.{entry_at, first_move, first_usable, is_free, move_from, move_of, other_way, slot_then, slots_of, target, with_moved, move_plan};
 ghost use Rattle.sr_shadow.specs.declared.entry.Entry.{Entry as AnEntry};
-ghost use Rattle.sr_plan.specs.Moves.{IsMover, if_at, is_nobody_else, is_slot};
+ghost use Rattle.sr_plan.specs.Moves.{IsMover, NonePlaced, if_at, is_nobody_else, is_slot};
 
 use crate::clear::is_clear_but;
 use crate::slots::{first_free, key_slots, same_key, slots_of};
@@ -14,7 +14,7 @@ use sr_shadow::{Entry, Plan, Shadow, book_rules};
 // The first move that makes room for the key.
 pub(crate) fn first_move(shadow: &Shadow, layout: &Layout, key: Key) -> Option<Plan>
     requires made { shadow.now.layout ≡ layout.now }
-    requires unplaced { IsUnplaced key shadow.now.entries }
+    requires unplaced { NonePlaced key shadow.now.entries }
     ensures { result ≡ move_plan layout.now.shape shadow.now.entries key }
 {
     let slots = key_slots(layout, key);
@@ -29,7 +29,7 @@ pub(crate) fn first_move(shadow: &Shadow, layout: &Layout, key: Key) -> Option<P
 // The move of the entry in a slot.
 fn move_from(shadow: &Shadow, layout: &Layout, key: Key, slot: Place) -> Option<Plan>
     requires made { shadow.now.layout ≡ layout.now }
-    requires unplaced { IsUnplaced key shadow.now.entries }
+    requires unplaced { NonePlaced key shadow.now.entries }
     ensures { result ≡ move_from layout.now.shape shadow.now.entries key slot }
 {
     match slot {
@@ -86,7 +86,7 @@ fn move_of(
     from: Place,
 ) -> Option<Plan>
     requires made { shadow.now.layout ≡ layout.now }
-    requires unplaced { IsUnplaced key shadow.now.entries }
+    requires unplaced { NonePlaced key shadow.now.entries }
     requires mover { IsMover key entry.now shadow.now.entries }
     ensures { result ≡ move_of layout.now.shape shadow.now.entries key entry.now.key way from }
 {
@@ -105,7 +105,7 @@ fn move_of(
 }
 
 // The other way.
-fn other_way(way: u8) -> u8
+pub(crate) fn other_way(way: u8) -> u8
     ensures value { result ≡ other_way way }
     ensures way { (1 ≤ result) × (result ≤ 2) }
 {
@@ -116,7 +116,7 @@ fn other_way(way: u8) -> u8
 #[tactic(auto, using(crate::proofs::Moving::target_slot))]
 fn target(shadow: &Shadow, layout: &Layout, key: Key, entry: &Entry, way: u8) -> Option<Place>
     requires made { shadow.now.layout ≡ layout.now }
-    requires unplaced { IsUnplaced key shadow.now.entries }
+    requires unplaced { NonePlaced key shadow.now.entries }
     requires mover { IsMover key entry.now shadow.now.entries }
     requires way { (1 ≤ way) × (way ≤ 2) }
     ensures value { result ≡ target layout.now.shape shadow.now.entries key entry.now.key way }
@@ -227,7 +227,7 @@ fn same_place(a: Place, b: Place) -> bool
 }
 
 // Whether the place, if there is one, is this one.
-fn is_at(place: Place, held: Option<Place>) -> bool
+pub(crate) fn is_at(place: Place, held: Option<Place>) -> bool
     ensures { result ≡ is_at place held }
 {
     match held {

@@ -19,7 +19,7 @@ pub(crate) fn first_row(shadow: &Shadow, layout: &Layout, key: Key) -> Option<Pl
 }
 
 // The four rows of the key's group.
-fn key_rows(layout: &Layout, key: Key) -> [u32; 4]
+pub(crate) fn key_rows(layout: &Layout, key: Key) -> [u32; 4]
     ensures { result ≡ key_rows layout.now.shape key }
 {
     layout_ranges(layout);

@@ -2,7 +2,7 @@
 --
 -- Places are tried in the order of the ways, and of the cells in a bucket: a slot of its buckets; a slot once one entry has moved; a row of its
 -- group in the table of full keys.
-use Rattle.std.specs.Prelude.{◌≡◌, ℕ, ◌+◌, ◌*◌, ◌==◌, Bool, true, false, not, ◌&&◌, ◌||◌, List, [], ◌∷◌, ◌++◌, is_none, Option, None, Some, find, option_map, slice_get, unwrap_or, if◌then◌else◌}
+use Rattle.std.specs.Prelude.{◌≡◌, ℕ, ◌+◌, ◌*◌, ◌==◌, Bool, true, false, not, ◌&&◌, ◌||◌, List, [], ◌∷◌, ◌++◌, is_none, Option, None, Some, find, IfSome, option_map, slice_get, unwrap_or, if◌then◌else◌}
 use Rattle.std.specs.List.{list_any}
 use Rattle.std.specs.Option.{option_or}
 use Rattle.sr_base.specs.Key.{KeyView}
@@ -11,8 +11,8 @@ use Rattle.sr_base.specs.declared.place.Place.TheVariants.{Slot, Row}
 use Rattle.sr_base.specs.declared.shape.Shape.{Shape}
 use Rattle.sr_hash.specs.Clash.{clashes}
 use Rattle.sr_hash.specs.Uses.{bucket_of, group_of}
-use Rattle.sr_shadow.specs.Book.{holder_of, is_clashing, is_registered, with_changed}
-use Rattle.sr_shadow.specs.Entry.{fresh, is_at, is_of, is_outside, is_placed}
+use Rattle.sr_shadow.specs.Book.{entry_for, holder_of, is_clashing, is_registered, with_changed}
+use Rattle.sr_shadow.specs.Entry.{fresh, is_at, is_of, is_outside}
 use Rattle.sr_shadow.specs.declared.entry.Entry.{Entry}
 use Rattle.sr_shadow.specs.declared.plan.Plan.{Plan}
 use Rattle.sr_shadow.specs.declared.plan.Plan.TheVariants as plan
@@ -103,6 +103,9 @@ target shape es key other way = first_usable shape (with_key key es) other (slot
 abbrev pub moved : Place → Entry → Entry
 moved to e = record e { place = Some to; also = None }
 
+abbrev pub moved_if : KeyView → Place → Entry → Entry
+moved_if other to e = if is_of other e then moved to e else e
+
 abbrev pub with_moved : KeyView → Place → List Entry → List Entry
 with_moved other to es = with_changed (moved to) other es
 
@@ -153,7 +156,7 @@ first_plan shape es key = unwrap_or (option_or (slot_plan shape es key) (option_
 
 -- the key has no Live place
 abbrev pub IsUnplaced : KeyView → List Entry → Type 0
-IsUnplaced key es = list_any (λ e. is_of key e && is_placed e) es ≡ false
+IsUnplaced key es = IfSome (entry_for key es) (λ e. e.place ≡ None)
 
 -- ---- what a planned slot keeps
 
