@@ -3,6 +3,7 @@ pub mod Counts
 pub mod Entry
 pub mod Holders
 pub mod Numbers
+pub mod Plan
 pub mod Rivals
 pub mod Roll
 pub mod Shadow

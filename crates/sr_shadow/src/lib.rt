@@ -5,6 +5,7 @@
 //! |---|---|
 //! | `entry`, `took` | an entry, and what taking a key answers |
 //! | `shadow` | the book, and its calls |
+//! | `plan` | how a key is placed; the first way there is stands in `specs/Plan.antt`, and `sr_plan` finds it |
 //! | `roll` | the entries in the order of taking |
 //! | `numbers`, `counts`, `rivals`, `holders` | what finds a key's entry, how many keys have a version, who clashes with a key, who holds a place |
 #![tactic(auto)]
@@ -13,6 +14,7 @@ mod counts;
 mod entry;
 mod holders;
 mod numbers;
+mod plan;
 mod rivals;
 mod roll;
 mod shadow;
@@ -21,6 +23,7 @@ mod tally;
 mod took;
 
 pub use entry::Entry;
+pub use plan::Plan;
 pub use shadow::{Shadow, book_rules};
 pub use took::Took;
 

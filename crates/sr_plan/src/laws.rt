@@ -1,0 +1,30 @@
+//! What the first plan means.
+
+ghost use Rattle.std.specs.Prelude.{◌≡◌, ◌++◌, ◌∷◌, ℕ, List, [], None, false};
+ghost use Rattle.sr_base.specs.Key.{KeyView};
+ghost use Rattle.sr_base.specs.declared.place.Place.{Place};
+ghost use Rattle.sr_base.specs.declared.shape.Shape.{Shape};
+ghost use Rattle.sr_shadow.specs.Book.{is_registered, with_changed};
+ghost use Rattle.sr_shadow.specs.Entry.{fresh, same_key, settled};
+ghost use Rattle.sr_shadow.specs.Plan.{AllClear, AllClearBut, first_plan, move_plan, row_plan, slot_plan};
+ghost use Rattle.sr_shadow.specs.declared.entry.Entry.{Entry};
+ghost use Rattle.sr_shadow.specs.declared.plan.Plan.TheVariants as plan;
+
+/// A key is planned for the table of full keys only where it has no slot and no move, and it has no room only where there is no plan at all.
+pub fn later_ways()
+    ensures full_key { (shape : Shape) (es : List Entry) (key : KeyView) (row : ℕ) → first_plan shape es key ≡ plan.FullKey row → (slot_plan shape es key ≡ None) × (move_plan shape es key ≡ None) }
+    ensures no_room { (shape : Shape) (es : List Entry) (key : KeyView) → first_plan shape es key ≡ plan.NoRoom → (slot_plan shape es key ≡ None) × (move_plan shape es key ≡ None) × (row_plan shape es key ≡ None) }
+{}
+
+/// A key that has no plan has none after another one was taken: a new entry never makes room.
+pub fn taking_makes_no_room()
+    ensures { (shape : Shape) (es : List Entry) (key other : KeyView) (version number : ℕ) → same_key key other ≡ false → is_registered other es ≡ false
+        → first_plan shape es key ≡ plan.NoRoom → first_plan shape (es ++ fresh other version number ∷ []) key ≡ plan.NoRoom }
+{}
+
+/// Where packets of no other registered key outside the full-key table are taken for another connection's, a planned slot leaves it so, and the
+/// same holds of the planned key.
+pub fn slots_stay_apart()
+    ensures { (shape : Shape) (es : List Entry) (key : KeyView) (place : Place) → first_plan shape es key ≡ plan.Slot place → AllClearBut key shape es
+        → AllClear shape (with_changed (settled place) key es) }
+{}

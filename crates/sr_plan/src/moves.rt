@@ -1,0 +1,237 @@
+ghost use Rattle.std.specs.Prelude.{◌≡◌, ◌≤◌, IfSome, Some, true, find, option_copied};
+ghost use Rattle.sr_shadow.specs.Book.{entry_for, holder_of};
+ghost use Rattle.sr_shadow.specs.Entry.{is_at, same_place};
+ghost use Rattle.sr_shadow.specs.Plan.{entry_at, first_move, first_usable, is_free, move_from, move_of, other_way, slot_then, slots_of, target, with_moved, move_plan};
+ghost use Rattle.sr_shadow.specs.declared.entry.Entry.{Entry as AnEntry};
+ghost use Rattle.sr_plan.specs.Moves.{IsMover, NonePlaced, if_at, is_nobody_else, is_slot};
+
+use crate::clear::is_clear_but;
+use crate::slots::{first_free, key_slots, same_key, slots_of};
+use sr_base::{Key, Layout, Place, layout_ranges};
+use sr_hash::clashes;
+use sr_shadow::{Entry, Plan, Shadow, book_rules};
+
+// The first move that makes room for the key.
+pub(crate) fn first_move(shadow: &Shadow, layout: &Layout, key: Key) -> Option<Plan>
+    requires made { shadow.now.layout ≡ layout.now }
+    requires unplaced { NonePlaced key shadow.now.entries }
+    ensures { result ≡ move_plan layout.now.shape shadow.now.entries key }
+{
+    let slots = key_slots(layout, key);
+    for slot in slots.as_slice() {
+        if let Some(plan) = move_from(shadow, layout, key, *slot) {
+            return Some(plan);
+        }
+    }
+    None
+}
+
+// The move of the entry in a slot.
+fn move_from(shadow: &Shadow, layout: &Layout, key: Key, slot: Place) -> Option<Plan>
+    requires made { shadow.now.layout ≡ layout.now }
+    requires unplaced { NonePlaced key shadow.now.entries }
+    ensures { result ≡ move_from layout.now.shape shadow.now.entries key slot }
+{
+    match slot {
+        Place::Slot { way, .. } => match entry_at(shadow, slot) {
+            Some(entry) => move_of(shadow, layout, key, entry, way, slot),
+            None => None,
+        },
+        Place::Row { .. } => None,
+    }
+}
+
+// The entry whose Live place this is.
+pub(crate) fn entry_at(shadow: &Shadow, place: Place) -> Option<&Entry>
+    ensures value { option_copied result ≡ entry_at place shadow.now.entries }
+    ensures own { (e : AnEntry) → option_copied result ≡ Some e → entry_for e.key shadow.now.entries ≡ Some e }
+{
+    match shadow.holder(place) {
+        Some(key) => placed_at(shadow, place, key),
+        None => None,
+    }
+}
+
+// The entry of the key that holds a place, where it is its Live place.
+fn placed_at(shadow: &Shadow, place: Place, key: Key) -> Option<&Entry>
+    requires { holder_of place shadow.now.entries ≡ Some key }
+    ensures value { option_copied result ≡ entry_at place shadow.now.entries }
+    ensures own { (e : AnEntry) → option_copied result ≡ Some e → entry_for e.key shadow.now.entries ≡ Some e }
+{
+    book_rules(shadow);
+    match shadow.get(key) {
+        Some(entry) => if_at(place, entry),
+        None => None,
+    }
+}
+
+// The entry, where this is its Live place.
+fn if_at(place: Place, entry: &Entry) -> Option<&Entry>
+    ensures { option_copied result ≡ if_at place (Some entry.now) }
+{
+    if is_at(place, entry.place) {
+        Some(entry)
+    } else {
+        None
+    }
+}
+
+// The move of an entry away from its slot, of this way.
+fn move_of(
+    shadow: &Shadow,
+    layout: &Layout,
+    key: Key,
+    entry: &Entry,
+    way: u8,
+    from: Place,
+) -> Option<Plan>
+    requires made { shadow.now.layout ≡ layout.now }
+    requires unplaced { NonePlaced key shadow.now.entries }
+    requires mover { IsMover key entry.now shadow.now.entries }
+    ensures { result ≡ move_of layout.now.shape shadow.now.entries key entry.now.key way from }
+{
+    let to = target(shadow, layout, key, entry, other_way(way))?;
+    let then = slot_then(shadow, layout, key, entry, to)?;
+    if is_clear_but(shadow, layout, key, entry.key) {
+        Some(Plan::Move {
+            key: entry.key,
+            from,
+            to,
+            then,
+        })
+    } else {
+        None
+    }
+}
+
+// The other way.
+pub(crate) fn other_way(way: u8) -> u8
+    ensures value { result ≡ other_way way }
+    ensures way { (1 ≤ result) × (result ≤ 2) }
+{
+    if way == 1 { 2 } else { 1 }
+}
+
+// The first usable slot of the entry's bucket of a way, where the key that is planned counts as registered.
+#[tactic(auto, using(crate::proofs::Moving::target_slot))]
+fn target(shadow: &Shadow, layout: &Layout, key: Key, entry: &Entry, way: u8) -> Option<Place>
+    requires made { shadow.now.layout ≡ layout.now }
+    requires unplaced { NonePlaced key shadow.now.entries }
+    requires mover { IsMover key entry.now shadow.now.entries }
+    requires way { (1 ≤ way) × (way ≤ 2) }
+    ensures value { result ≡ target layout.now.shape shadow.now.entries key entry.now.key way }
+    ensures slot { IfSome result (λ to. is_slot to ≡ true) }
+{
+    layout_ranges(layout);
+    if shadow.clashing(way, entry.key) || clashes(layout.shape(), way, entry.key, key) {
+        None
+    } else {
+        first_free(shadow, &slots_of(layout, way, entry.key))
+    }
+}
+
+// The key's first usable slot with the entry at another place.
+fn slot_then(shadow: &Shadow, layout: &Layout, key: Key, entry: &Entry, to: Place) -> Option<Place>
+    requires made { shadow.now.layout ≡ layout.now }
+    requires mover { IsMover key entry.now shadow.now.entries }
+    requires slot { is_slot to ≡ true }
+    ensures { result ≡ slot_then layout.now.shape shadow.now.entries key entry.now.key to }
+{
+    match slot_then_in(shadow, layout, 1, key, entry, to) {
+        Some(place) => Some(place),
+        None => slot_then_in(shadow, layout, 2, key, entry, to),
+    }
+}
+
+// The first of a way.
+#[tactic(auto, using(crate::proofs::Moving::then_slot))]
+fn slot_then_in(
+    shadow: &Shadow,
+    layout: &Layout,
+    way: u8,
+    key: Key,
+    entry: &Entry,
+    to: Place,
+) -> Option<Place>
+    requires made { shadow.now.layout ≡ layout.now }
+    requires way { (1 ≤ way) × (way ≤ 2) }
+    requires mover { IsMover key entry.now shadow.now.entries }
+    requires slot { is_slot to ≡ true }
+    ensures { result ≡ first_usable layout.now.shape (with_moved entry.now.key to shadow.now.entries) key (slots_of layout.now.shape way key) }
+{
+    book_rules(shadow);
+    if shadow.clashing(way, key) {
+        None
+    } else {
+        first_left(shadow, key, entry, to, &slots_of(layout, way, key))
+    }
+}
+
+// The first of these places that nobody holds with the entry at another place.
+fn first_left(
+    shadow: &Shadow,
+    key: Key,
+    entry: &Entry,
+    to: Place,
+    places: &[Place],
+) -> Option<Place>
+    requires { IsMover key entry.now shadow.now.entries }
+    ensures { result ≡ find (is_free (with_moved entry.now.key to shadow.now.entries)) places.now }
+{
+    for place in places {
+        if is_left(shadow, key, entry, to, *place) {
+            return Some(*place);
+        }
+    }
+    None
+}
+
+// Whether nobody holds a place with the entry at another place.
+#[tactic(auto, using(crate::proofs::Moving::left_free))]
+fn is_left(shadow: &Shadow, key: Key, entry: &Entry, to: Place, place: Place) -> bool
+    requires { IsMover key entry.now shadow.now.entries }
+    ensures { result ≡ is_free (with_moved entry.now.key to shadow.now.entries) place }
+{
+    book_rules(shadow);
+    let _ = key;
+    !same_place(place, to) && is_nobody_else(shadow.holder(place), entry.key)
+}
+
+// Whether that is nobody, or this key.
+fn is_nobody_else(holder: Option<Key>, key: Key) -> bool
+    ensures { result ≡ is_nobody_else holder key }
+{
+    match holder {
+        None => true,
+        Some(holder) => same_key(key, holder),
+    }
+}
+
+// Whether two places are one.
+fn same_place(a: Place, b: Place) -> bool
+    ensures { result ≡ same_place a b }
+{
+    match (a, b) {
+        (
+            Place::Slot { way, bucket, cell },
+            Place::Slot {
+                way: other_way,
+                bucket: other_bucket,
+                cell: other_cell,
+            },
+        ) => way == other_way && (bucket == other_bucket && cell == other_cell),
+        (Place::Row { row }, Place::Row { row: other_row }) => row == other_row,
+        (Place::Slot { .. }, Place::Row { .. }) => false,
+        (Place::Row { .. }, Place::Slot { .. }) => false,
+    }
+}
+
+// Whether the place, if there is one, is this one.
+pub(crate) fn is_at(place: Place, held: Option<Place>) -> bool
+    ensures { result ≡ is_at place held }
+{
+    match held {
+        None => false,
+        Some(held) => same_place(place, held),
+    }
+}
