@@ -13,6 +13,11 @@ import tempfile
 import time
 
 SIZES = (200_000, 4_194_304)
+ONE = ["one", "192.0.2.1:80", "10.1.0.1:80,10.1.0.2:80"]
+
+
+POOL = 'servers = ["10.1.0.1:80", "10.1.0.2:80"]\n[[vip]]\naddr = "192.0.2.1:80"\npool = [0, 1]\n'
+JUDGED = 2_000  # the plain auditor's time grows with the square of the list
 
 
 def best(command, path, runs=5):
@@ -22,7 +27,10 @@ def best(command, path, runs=5):
     for _ in range(runs):
         with open(path, "rb") as source:
             begin = time.perf_counter()
-            child = subprocess.Popen(command, stdin=source, stdout=subprocess.DEVNULL, stderr=subprocess.DEVNULL)
+            # without a zone of its own tcpdump looks the zone's file up for every packet
+            child = subprocess.Popen(
+                command, stdin=source, stdout=subprocess.DEVNULL, stderr=subprocess.DEVNULL, env={**os.environ, "TZ": "UTC0"}
+            )
             _, _, usage = os.wait4(child.pid, 0)
             times.append(time.perf_counter() - begin)
             peak = usage.ru_maxrss * 1024
@@ -34,8 +42,34 @@ def row(name, packets, seconds, peak):
     return f"| {name} | {packets:,} | {seconds:.3f} | {rate:.2f} | {peak / 1e6:.1f} | {peak / packets:.0f} |"
 
 
+def log_of(program, capture, path, last=b""):
+    """Writes the log that `one` prints of a capture, and a last line; answers how many lines the text has."""
+    with open(capture, "rb") as source:
+        text = subprocess.run([program, *ONE], stdin=source, stdout=subprocess.PIPE, check=True).stdout + last
+    with open(path, "wb") as out:
+        out.write(text)
+    return text.count(b"\n")
+
+
+def audits(program, folder):
+    """Rows of `audit`: of a long log with a bad last line, which is read and not judged, and of a short lawful one."""
+    script = os.path.join(folder, "pool.toml")
+    with open(script, "w") as out:
+        out.write(POOL)
+    log = os.path.join(folder, "log")
+    lines = log_of(program, os.path.join(folder, f"{SIZES[1]}.pcap"), log, b"bad\n")
+    seconds, peak = best([program, "audit", script], log)
+    yield row("`silkroad audit`, reading", lines, seconds, peak)
+    capture = os.path.join(folder, "short.pcap")
+    with open(capture, "wb") as out:
+        subprocess.run([program, "make", "1", str(JUDGED)], stdout=out, check=True)
+    lines = log_of(program, capture, log)
+    seconds, peak = best([program, "audit", script], log)
+    yield row("`silkroad audit`, judging", lines, seconds, peak)
+
+
 def main():
-    program = sys.argv[1]
+    program = os.path.abspath(sys.argv[1])
     rows = []
     with tempfile.TemporaryDirectory() as folder:
         for packets in SIZES:
@@ -44,7 +78,7 @@ def main():
                 subprocess.run([program, "make", "1", str(packets)], stdout=out, check=True)
             seconds, peak = best([program, "make", "1", str(packets)], os.devnull)
             rows.append(row("`silkroad make`", packets, seconds, peak))
-            seconds, peak = best([program, "one", "192.0.2.1:80", "10.1.0.1:80,10.1.0.2:80"], path)
+            seconds, peak = best([program, *ONE], path)
             rows.append(row("`silkroad one`", packets, seconds, peak))
             if packets != SIZES[0]:
                 continue
@@ -53,12 +87,13 @@ def main():
                 rows.append(row("`tcpdump -nr`", packets, seconds, peak))
             else:
                 rows.append(f"| `tcpdump -nr` | {packets:,} | not installed | | | |")
+        rows.extend(audits(program, folder))
     cores = os.cpu_count()
     text = (
         "# Measurements\n\n"
         f"Best of five (`tcpdump`: one run), standard input a file, standard output dropped. A peak of 14 MB is the measuring script's own floor."
         f" {platform.system()} {platform.machine()}, {cores} processors.\n\n"
-        "| command | packets | seconds | million packets per second | peak memory, MB | bytes per packet |\n"
+        "| command | packets or lines | seconds | millions of them per second | peak memory, MB | bytes for each |\n"
         "|---|---|---|---|---|---|\n" + "\n".join(rows) + "\n"
     )
     with open(os.path.join(os.path.dirname(os.path.abspath(__file__)), "RESULTS.md"), "w") as out:

@@ -1,10 +1,10 @@
 -- Marks beside their counts.
-use Rattle.std.proofs.Common.{◌≡◌, ℕ, zero, suc, ◌+◌, ◌-◌, ◌^◌, ◌<◌, ◌≤◌, Bool, true, false, List, [], ◌∷◌, ◌++◌, length, get_or, take, set, Some, None, ap, sym, refl, ◌∙◌, subst, arith, length-set}
+use Rattle.std.proofs.Common.{◌≡◌, ℕ, suc, ◌+◌, ◌-◌, ◌^◌, ◌<◌, ◌≤◌, Bool, true, false, List, [], ◌∷◌, ◌++◌, length, get_or, set, Some, ap, sym, refl, ◌∙◌, arith, length-set}
 use mathlib.Core.Bool.{beq}
 use Rattle.std.proofs.lemmas.List.{length_push, get_or_past}
 use Rattle.sr_marks.specs.Counts.{total, total_before, weight, weights}
 use Rattle.sr_marks.specs.Marks.{count_set, rank_of, nth_set, AreCounted}
-use Rattle.sr_marks.proofs.SetMarks.{count_set-le, count_set-push, count_set-set, nth_set-is, nth_set-none}
+use Rattle.sr_marks.proofs.SetMarks.{count_set-le, count_set-push, count_set-set}
 use Rattle.sr_marks.proofs.Weighing.{total-weights, length-weights, get_or-weights, before-weights, weights-set, weights-push, weights-push_unset, nth-weights}
 
 pub counted-total : (ms : List Bool) (capacity : ℕ) (cs : List ℕ) (n : ℕ) → AreCounted ms capacity cs n → total cs ≡ count_set ms

@@ -1,7 +1,7 @@
 -- The levels over a list of counts.
-use Rattle.std.proofs.Common.{◌≡◌, ℕ, zero, suc, ◌+◌, ◌-◌, ◌*◌, ◌/◌, ◌%◌, ◌^◌, ◌<◌, ◌≤◌, List, [], ◌∷◌, length, get_or, ◌++◌, take, set, ap, sym, refl, ◌∙◌, subst, arith, add-one}
-use Rattle.sr_marks.specs.Counts.{total, total_before, pairs, level_of, lowest, AreLevels}
-use Rattle.sr_marks.proofs.Pairing.{total-pairs, length-pairs, get_or-pairs, before-pairs, entry-le, pairs-set}
+use Rattle.std.proofs.Common.{◌≡◌, ℕ, zero, suc, ◌+◌, ◌-◌, ◌≤◌, List, [], length, refl, ◌∙◌, arith, add-one}
+use Rattle.sr_marks.specs.Counts.{total, pairs, level_of, AreLevels}
+use Rattle.sr_marks.proofs.Pairing.{total-pairs, length-pairs}
 
 pub level_more : (i : ℕ) (xs : List ℕ) → level_of (i + 1) xs ≡ pairs (level_of i xs)
 unfolding level_of

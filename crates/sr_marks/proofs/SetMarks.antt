@@ -1,5 +1,6 @@
--- What holds of lists of marks: for callers.
-use Rattle.std.proofs.Common.{◌≡◌, ℕ, zero, suc, ◌+◌, ◌<◌, ◌≤◌, Bool, true, false, List, [], ◌∷◌, ◌++◌, length, get_or, take, set, Option, Some, None, ap, sym, refl, ◌∙◌, arith}
+-- What holds of lists of marks, for callers.
+use Rattle.std.proofs.Common.{◌≡◌, ℕ, zero, suc, ◌+◌, ◌<◌, ◌≤◌, Bool, true, false, List, [], ◌∷◌, ◌++◌, length, get_or, set, Option, Some, None, ap, refl, arith, add-one}
+use Rattle.std.proofs.lemmas.List.{take_all, take-set-le}
 use Rattle.std.specs.Prelude.{option_map}
 use Rattle.sr_marks.specs.Counts.{weight}
 use Rattle.sr_marks.specs.Marks.{count_set, rank_of, nth_set, next_set}
@@ -116,3 +117,44 @@ next_set-none zero (false ∷ rest) e zero above = refl
 next_set-none zero (false ∷ rest) e (suc k) above = next_set-none zero rest (none_on _ e) k (omega arith)
 next_set-none (suc from) (mark ∷ rest) e zero above = absurd (omega arith)
 next_set-none (suc from) (mark ∷ rest) e (suc k) above = next_set-none from rest (none_on _ e) k (omega arith)
+
+-- and the other way round
+pub next_set-found : (from : ℕ) (ms : List Bool) (at : ℕ) → from ≤ at → get_or ms at false ≡ true → ((k : ℕ) → from ≤ k → k < at → get_or ms k false ≡ false) → next_set from ms ≡ Some at
+unfolding next_set
+next_set-found from [] at above marked between = cc
+next_set-found zero (true ∷ rest) zero above marked between = refl
+next_set-found zero (true ∷ rest) (suc at) above marked between = let first : true ≡ false = between 0 (omega arith) (omega arith) in cc
+next_set-found zero (false ∷ rest) zero above marked between = cc
+next_set-found zero (false ∷ rest) (suc at) above marked between =
+    ap (option_map (λ k. suc k)) (next_set-found zero rest at (omega arith) marked (λ k low high. between (suc k) (omega arith) (omega arith)))
+next_set-found (suc from) (mark ∷ rest) zero above marked between = absurd (omega arith)
+next_set-found (suc from) (mark ∷ rest) (suc at) above marked between =
+    ap (option_map (λ k. suc k)) (next_set-found from rest at (omega arith) marked (λ k low high. between (suc k) (omega arith) (omega arith)))
+
+-- ranks: one position on, and no more than are set
+rank_suc : (ms : List Bool) (at : ℕ) → rank_of (suc at) ms ≡ rank_of at ms + weight (get_or ms at false)
+unfolding count_set
+rank_suc [] zero = refl
+rank_suc [] (suc at) = refl
+rank_suc (true ∷ rest) zero = refl
+rank_suc (false ∷ rest) zero = refl
+rank_suc (true ∷ rest) (suc at) = let e = rank_suc rest at in omega arith
+rank_suc (false ∷ rest) (suc at) = rank_suc rest at
+
+pub rank_more : (ms : List Bool) (at : ℕ) → rank_of (at + 1) ms ≡ rank_of at ms + weight (get_or ms at false)
+rank_more ms at = rw add-one (rank_suc ms at)
+
+pub rank-le : (ms : List Bool) (at : ℕ) → rank_of at ms ≤ count_set ms
+unfolding count_set
+rank-le ms zero = omega arith
+rank-le [] (suc at) = omega arith
+rank-le (true ∷ rest) (suc at) = let e = rank-le rest at in omega arith
+rank-le (false ∷ rest) (suc at) = rank-le rest at
+
+-- from the end on, all are before
+pub rank_all : (ms : List Bool) (at : ℕ) → length ms ≤ at → rank_of at ms ≡ count_set ms
+rank_all ms at past = ap count_set (take_all at ms past)
+
+-- a mark doesn't change the ranks up to it
+pub rank-set : (ms : List Bool) (at k : ℕ) (mark : Bool) → k ≤ at → rank_of k (set ms at mark) ≡ rank_of k ms
+rank-set ms at k mark early = ap count_set (take-set-le k ms at mark early)

@@ -1,9 +1,9 @@
 -- Walks over the levels: how they are made, and how a sum, a position and a change go from one to the next.
-use Rattle.std.proofs.Common.{◌≡◌, ℕ, zero, suc, ◌+◌, ◌-◌, ◌*◌, ◌/◌, ◌%◌, ◌^◌, ◌<◌, ◌≤◌, ◌≢◌, List, [], ◌∷◌, ◌++◌, length, get_or, take, set, inl, inr, ap, sym, refl, ◌∙◌, subst, arith, add-one, length-append, length-set, get_or-set_same, get_or-set_other}
+use Rattle.std.proofs.Common.{◌≡◌, ℕ, zero, suc, ◌+◌, ◌-◌, ◌*◌, ◌/◌, ◌%◌, ◌<◌, ◌≤◌, ◌≢◌, List, [], ◌∷◌, ◌++◌, length, get_or, set, inl, inr, ap, sym, refl, ◌∙◌, subst, arith, length-set, get_or-set_same, get_or-set_other}
 use Rattle.std.proofs.lemmas.List.{get_or_append_left, get_or_push, length_push, get_or_read}
 use Rattle.std.proofs.lemmas.Bool.{cases_lt, cases_eq}
 use Rattle.sr_marks.specs.Counts.{total, total_before, pairs, level_of, lowest, AreLevels}
-use Rattle.sr_marks.proofs.Pairing.{total-pairs, length-pairs, get_or-pairs, before-pairs, before_more, entry-le, pairs-set}
+use Rattle.sr_marks.proofs.Pairing.{length-pairs, get_or-pairs, before-pairs, before_more, entry-le, pairs-set}
 use Rattle.sr_marks.proofs.Levels.{level_more, level_zero, total-level, length-level}
 
 -- The levels so far, and the next one.

@@ -10,7 +10,7 @@ use Rattle.sr_shadow.specs.Plan.{first_move, first_plan, first_usable, is_clear,
 use Rattle.sr_shadow.specs.declared.entry.Entry.{Entry}
 use Rattle.sr_shadow.specs.declared.plan.Plan.{Plan}
 use Rattle.sr_shadow.specs.declared.plan.Plan.TheVariants as plan
-use Rattle.std.proofs.Common.{Bool, true, false, cond}
+use Rattle.std.proofs.Common.{Bool, true, false}
 
 -- the plan is of the first way, and a way gives its own kind of plan
 pub data Kind : Type 0 where

@@ -1,16 +1,15 @@
 -- The book with an entry at another place.
-use Rattle.std.proofs.Common.{◌≡◌, ℕ, ◌+◌, ◌≤◌, Bool, true, false, cond, ◌&&◌, ◌||◌, not, List, [], ◌∷◌, ◌++◌, map, find, sum_by, is_none, is_some, Option, None, Some, option_map, refl, sym, ◌∙◌, ap, subst, true≢false, arith}
+use Rattle.std.proofs.Common.{◌≡◌, ℕ, ◌≤◌, Bool, true, false, cond, ◌&&◌, ◌||◌, not, List, [], ◌∷◌, ◌++◌, find, sum_by, is_none, is_some, Option, None, Some, option_map, refl, sym, ◌∙◌, ap, subst, true≢false, arith}
 use Rattle.std.proofs.lemmas.Bool.Decides.{nat_tests}
-use Rattle.std.proofs.lemmas.List.Folds.{find-append, list_any-append}
+use Rattle.std.proofs.lemmas.List.Folds.{list_any-append}
 use Rattle.std.proofs.lemmas.List.Sums.{sum_by-cons}
 use Rattle.std.specs.List.{list_any}
-use Rattle.std.specs.Option.{option_or}
 use Rattle.sr_base.specs.Key.{KeyView}
 use Rattle.sr_base.specs.declared.place.Place.{Place}
 use Rattle.sr_base.specs.declared.place.Place.TheVariants.{Slot, Row}
 use Rattle.sr_base.specs.declared.shape.Shape.{Shape}
 use Rattle.sr_hash.specs.Clash.{clashes}
-use Rattle.sr_shadow.specs.Book.{entry_for, holder_of, is_clashing, is_registered, is_rival, with_changed, DistinctKeys, HeldOnce}
+use Rattle.sr_shadow.specs.Book.{entry_for, holder_of, is_clashing, is_registered, is_rival, DistinctKeys, HeldOnce}
 use Rattle.sr_shadow.specs.Entry.{fresh, holds, is_at, is_of, is_outside, is_placed, is_row, same_key, same_place, times_held}
 use Rattle.sr_shadow.specs.Plan.{entry_at, first_usable, is_free, moved, slots_in, slots_of, target, with_key, with_moved}
 use Rattle.sr_shadow.specs.declared.entry.Entry.{Entry}

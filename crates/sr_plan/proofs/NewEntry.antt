@@ -11,12 +11,11 @@ use Rattle.sr_base.specs.declared.shape.Shape.{Shape}
 use Rattle.sr_hash.specs.Uses.{bucket_of}
 use Rattle.sr_shadow.specs.Book.{holder_of, is_clashing, is_registered, is_rival}
 use Rattle.sr_shadow.specs.Entry.{fresh, holds, is_at, is_of, same_key}
-use Rattle.sr_shadow.specs.Plan.{entry_at, first_move, first_plan, first_usable, is_clear, is_clear_but, is_free, is_mistaken, is_mistaken_but, is_usable, key_rows, key_slots, moved, move_at, move_from, move_if_clear, move_plan, move_to, other_way, row_plan, slot_if_clear, slot_plan, slot_then, slots_in, target, with_key, with_moved}
+use Rattle.sr_shadow.specs.Plan.{entry_at, first_move, first_plan, first_usable, is_clear, is_clear_but, is_free, is_mistaken, is_mistaken_but, is_usable, key_rows, key_slots, moved, move_at, move_from, move_if_clear, move_to, other_way, row_plan, slot_if_clear, slot_plan, slot_then, slots_in, target, with_key, with_moved}
 use Rattle.sr_shadow.specs.declared.entry.Entry.{Entry}
 use Rattle.sr_shadow.specs.declared.plan.Plan.{Plan}
 use Rattle.sr_shadow.specs.declared.plan.Plan.TheVariants as plan
-use Rattle.sr_shadow.proofs.Splits.{same_key-true}
-use Rattle.sr_plan.proofs.Holding.{found_any, found_passes, same_key-sym}
+use Rattle.sr_plan.proofs.Holding.{found_any, same_key-sym}
 use Rattle.sr_plan.proofs.Later.{no_room_none, none_no_room}
 use Rattle.sr_plan.proofs.Usable.{usable_slot}
 

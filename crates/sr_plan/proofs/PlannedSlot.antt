@@ -1,5 +1,5 @@
 -- A planned slot leaves all keys clear.
-use Rattle.std.proofs.Common.{◌≡◌, ◌==◌, ℕ, zero, suc, Bool, true, false, cond, ◌&&◌, ◌||◌, not, List, [], ◌∷◌, map, find, Option, None, Some, option_map, refl, sym, ◌∙◌, ap, subst, true≢false, arith}
+use Rattle.std.proofs.Common.{◌≡◌, ◌==◌, ℕ, zero, suc, Bool, true, false, cond, ◌&&◌, ◌||◌, not, List, [], ◌∷◌, map, find, Option, None, Some, option_map, refl, sym, ◌∙◌, ap, subst, arith}
 use Rattle.std.specs.Prelude.{slice_get}
 use Rattle.std.proofs.lemmas.Bool.Decides.{nat_tests}
 use Rattle.std.specs.List.{list_any}
@@ -11,9 +11,8 @@ use Rattle.sr_hash.specs.Clash.{clashes}
 use Rattle.sr_hash.specs.Uses.{bucket_of, digest_of}
 use Rattle.sr_shadow.specs.Book.{is_clashing, is_rival, with_changed}
 use Rattle.sr_shadow.specs.Entry.{is_of, is_outside, settled}
-use Rattle.sr_shadow.specs.Plan.{AllClear, AllClearBut, clashes_at, first_plan, first_usable, is_clear, is_free, is_mistaken, is_usable, key_slots, slot_if_clear, slot_plan}
+use Rattle.sr_shadow.specs.Plan.{AllClear, AllClearBut, clashes_at, first_plan, first_usable, is_clear, is_mistaken, is_usable, key_slots, slot_if_clear, slot_plan}
 use Rattle.sr_shadow.specs.declared.entry.Entry.{Entry}
-use Rattle.sr_shadow.specs.declared.plan.Plan.{Plan}
 use Rattle.sr_shadow.specs.declared.plan.Plan.TheVariants as plan
 use Rattle.sr_shadow.proofs.Splits.{same_key-true}
 use Rattle.sr_plan.proofs.Holding.{some_same}

@@ -1,11 +1,10 @@
 -- Usable slots.
-use Rattle.std.proofs.Common.{◌≡◌, ◌==◌, ℕ, Bool, true, false, cond, not, ◌&&◌, List, [], ◌∷◌, Option, None, Some, find, refl, sym, ap, ◌∙◌}
+use Rattle.std.proofs.Common.{◌≡◌, ℕ, Bool, true, false, cond, ◌&&◌, List, None, find, refl}
 use Rattle.sr_base.specs.Key.{KeyView}
-use Rattle.sr_base.specs.declared.place.Place.{Place}
 use Rattle.sr_base.specs.declared.shape.Shape.{Shape}
 use Rattle.sr_shadow.specs.Book.{is_clashing}
 use Rattle.sr_shadow.specs.declared.entry.Entry.{Entry}
-use Rattle.sr_shadow.specs.Plan.{first_usable, is_free, is_usable, slots_in}
+use Rattle.sr_shadow.specs.Plan.{first_usable, is_free, slots_in}
 
 both : (a : Bool) → (a && true) ≡ a
 both true = refl

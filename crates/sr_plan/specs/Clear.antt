@@ -1,8 +1,11 @@
--- A test of an entry that may be missing.
-use Rattle.std.specs.Prelude.{Bool, false, Option, Some, None}
+-- An entry that may be missing, and whose packets another key's are taken for.
+use Rattle.std.specs.Prelude.{ℕ, cond, Option, Some, None}
+use Rattle.sr_base.specs.Key.{KeyView}
+use Rattle.sr_base.specs.declared.shape.Shape.{Shape}
+use Rattle.sr_shadow.specs.Plan.{is_mistaken}
 use Rattle.sr_shadow.specs.declared.entry.Entry.{Entry}
 
--- there is an entry, and it passes
-abbrev pub passes : (Entry → Bool) → Option Entry → Bool
-passes test None = false
-passes test (Some e) = test e
+-- 1 where there is an entry and the key's packets are taken for its own, else 0
+abbrev pub mistaken_one : Shape → KeyView → Option Entry → ℕ
+mistaken_one shape key None = 0
+mistaken_one shape key (Some e) = cond (is_mistaken shape key e) 1 0

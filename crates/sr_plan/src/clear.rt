@@ -1,77 +1,42 @@
-ghost use Rattle.std.specs.Prelude.{◌≡◌, true, slice_get};
-ghost use Rattle.std.specs.List.{list_any};
+ghost use Rattle.std.specs.Prelude.{◌≡◌, option_copied};
 ghost use Rattle.sr_shadow.specs.Plan.{clashes_at, is_clear_but, is_mistaken_but};
-ghost use Rattle.sr_plan.specs.Clear.{passes};
+ghost use Rattle.sr_plan.specs.Clear.{mistaken_one};
+ghost use Rattle.sr_plan.specs.Moves.{NonePlaced};
 
-use crate::moves::entry_at;
-use crate::slots::{key_slots, same_key};
+use crate::slots::same_key;
 use sr_base::{Key, Layout, Place, layout_ranges};
 use sr_hash::clashes;
-use sr_shadow::{Entry, Shadow};
+use sr_shadow::{Entry, Shadow, book_rules};
 
-#[tactic(auto, using(crate::proofs::Clearing::none_mistaken))]
-// Whether the key's packets are taken for those of no entry but, perhaps, that of one other key.
+// Whether the key's packets are taken for those of no entry but, perhaps, that of one other key. Those that they are taken for stand in slots and
+// clash with the key there; the key itself stands nowhere.
 pub(crate) fn is_clear_but(shadow: &Shadow, layout: &Layout, key: Key, other: Key) -> bool
-    requires { shadow.now.layout ≡ layout.now }
+    requires made { shadow.now.layout ≡ layout.now }
+    requires unplaced { NonePlaced key shadow.now.entries }
     ensures { result ≡ is_clear_but layout.now.shape shadow.now.entries key other }
 {
-    if !shadow.clashing(1, key) && !shadow.clashing(2, key) {
-        true
-    } else if is_mistaken_near(shadow, layout, key, other) {
-        false
-    } else {
-        !any_mistaken(shadow, layout, key, other)
-    }
+    book_rules(shadow);
+    let standing = shadow.standing(1, key) as u128 + shadow.standing(2, key) as u128;
+    standing == mistaken_one(layout, key, shadow.get(other)) as u128
 }
 
-// Whether they are taken for those of an entry in a slot of the key's buckets, that of the other key left out.
-fn is_mistaken_near(shadow: &Shadow, layout: &Layout, key: Key, other: Key) -> bool
-    ensures { result ≡ true → list_any (is_mistaken_but layout.now.shape key other) shadow.now.entries ≡ true }
+// 1 for an entry that the key's packets are taken for, else 0.
+fn mistaken_one(layout: &Layout, key: Key, entry: Option<&Entry>) -> u64
+    ensures { result ≡ mistaken_one layout.now.shape key (option_copied entry.entry) }
 {
-    let slots = key_slots(layout, key);
-    for slot in slots.as_slice() {
-        if is_mistaken_in(shadow, layout, key, other, *slot) {
-            return true;
+    match entry {
+        Some(entry) => {
+            if !same_key(key, entry.key) && clashes_at(layout, key, entry) {
+                1
+            } else {
+                0
+            }
         }
-    }
-    false
-}
-
-// Whether they are taken for those of the entry in this slot, that of the other key left out.
-#[tactic(auto, using(crate::proofs::Clearing::found_mistaken))]
-fn is_mistaken_in(shadow: &Shadow, layout: &Layout, key: Key, other: Key, slot: Place) -> bool
-    ensures { result ≡ true → list_any (is_mistaken_but layout.now.shape key other) shadow.now.entries ≡ true }
-{
-    match entry_at(shadow, slot) {
-        Some(entry) => is_mistaken_but(layout, key, other, entry),
-        None => false,
+        None => 0,
     }
 }
 
-#[tactic(auto, using(crate::proofs::Clearing::any_more))]
-// Whether they are taken for those of an entry, that of the other key left out.
-fn any_mistaken(shadow: &Shadow, layout: &Layout, key: Key, other: Key) -> bool
-    ensures { result ≡ list_any (is_mistaken_but layout.now.shape key other) shadow.now.entries }
-{
-    for i in 0..shadow.len() {
-        if is_mistaken_at(shadow, layout, key, other, i) {
-            return true;
-        }
-    }
-    false
-}
-
-// Whether they are taken for those of the i-th entry, that of the other key left out.
-fn is_mistaken_at(shadow: &Shadow, layout: &Layout, key: Key, other: Key, i: usize) -> bool
-    ensures { result ≡ passes (is_mistaken_but layout.now.shape key other) (slice_get shadow.now.entries i) }
-{
-    match shadow.at(i) {
-        Some(entry) => is_mistaken_but(layout, key, other, entry),
-        None => false,
-    }
-}
-
-// Whether they are taken for this entry's, which isn't the other key's.
+// Whether the key's packets are taken for those of this entry, which isn't the other key's.
 pub(crate) fn is_mistaken_but(layout: &Layout, key: Key, other: Key, entry: &Entry) -> bool
     ensures { result ≡ is_mistaken_but layout.now.shape key other entry.now }
 {

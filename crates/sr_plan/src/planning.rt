@@ -28,10 +28,13 @@ pub fn plan(shadow: &Shadow, layout: &Layout, key: Key) -> Plan
 }
 
 // The key's first usable slot, if the key is clear.
+#[tactic(auto, using(crate::proofs::Holding::none_placed))]
 fn slot(shadow: &Shadow, layout: &Layout, key: Key) -> Option<Plan>
-    requires { shadow.now.layout ≡ layout.now }
+    requires made { shadow.now.layout ≡ layout.now }
+    requires unplaced { IsUnplaced key shadow.now.entries }
     ensures { result ≡ slot_plan layout.now.shape shadow.now.entries key }
 {
+    book_rules(shadow);
     let place = usable(shadow, layout, key)?;
     if is_clear_but(shadow, layout, key, key) {
         Some(Plan::Slot { place })

@@ -2,9 +2,12 @@
 //!
 //! `bytes` makes captures and `play` runs a row through devices in memory. The rows: `first_run` (whole captures and skipped records),
 //! `cuts` (an input cut to every length), `devices` (failing ones), `frames` (hostile ones), `forms` (of captures), `made`
-//! (captures from a number), `usage` (words that are no command) and `hashes` (values from outside).
+//! (captures from a number), `audit` (logs judged by a script), `scripts` (refused ones), `usage` (words that are no command) and `hashes`
+//! (values from outside).
 #![tactic(auto)]
 
+#[cfg(test)]
+mod audit;
 #[cfg(test)]
 mod bytes;
 #[cfg(test)]
@@ -23,5 +26,7 @@ mod hashes;
 mod made;
 #[cfg(test)]
 mod play;
+#[cfg(test)]
+mod scripts;
 #[cfg(test)]
 mod usage;

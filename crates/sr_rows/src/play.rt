@@ -1,5 +1,5 @@
 //! Plays a row: words and an input, through devices in memory some calls of which may fail.
-use sr_io::{MemSink, MemSource, OpenGate, SureShelf};
+use sr_io::{MemSink, MemSource, OpenGate, Shelf, SureShelf};
 use sr_run::{Status, run};
 use std::alloc::{AllocError, Global};
 use std::thread::Threads;
@@ -53,21 +53,31 @@ pub fn row_of(input: &[u8], piece: usize) -> Row<'_> {
     }
 }
 
-/// Plays the row.
+/// Plays the row. The shelf has an empty text under every name.
 pub fn play<R: Threads + Sync>(rt: &R, alloc: Global, row: Row) -> Result<Played, AllocError> {
+    let mut shelf = SureShelf::new(Vec::new(alloc));
+    play_over(rt, alloc, row, &mut shelf)
+}
+
+/// Plays the row over this shelf.
+pub fn play_over<R: Threads + Sync, F: Shelf>(
+    rt: &R,
+    alloc: Global,
+    row: Row,
+    shelf: &mut F,
+) -> Result<Played, AllocError> {
     let words = owned(alloc, row.words)?;
     let input = Vec::from_slice(alloc, row.input)?;
     let read_fails = Vec::from_slice(alloc, &[row.read_fails])?;
     let write_fails = Vec::from_slice(alloc, &[row.write_fails])?;
     let mut source = MemSource::new(input, row.piece.max(1), read_fails);
-    let mut shelf = SureShelf::new(Vec::new(alloc));
     let mut sink = MemSink::new(alloc, 262_144, write_fails)?;
     let status = run(
         rt,
         alloc,
         &words,
         &mut source,
-        &mut shelf,
+        shelf,
         &mut sink,
         &OpenGate,
     );

@@ -5,7 +5,7 @@ use std::test::Fail;
 
 #[test]
 fn no_command(rt: HostRuntime) -> Result<(), Fail> {
-    let rows: [&[&str]; 16] = [
+    let rows: [&[&str]; 20] = [
         &[],
         &["one"],
         &["one", "192.0.2.1:80"],
@@ -16,6 +16,10 @@ fn no_command(rt: HostRuntime) -> Result<(), Fail> {
         &["one", "192.0.2.1:0", "10.1.0.1:80"],
         &["one", "192.0.2.1:80", "10.1.0.1:80", "more"],
         &["One", "192.0.2.1:80", "10.1.0.1:80"],
+        &["audit"],
+        &["audit", "-x"],
+        &["audit", "x", "y"],
+        &["audit", "--", "x"],
         &["replay"],
         &["replay", "-x"],
         &["make", "1", "0"],

@@ -5,9 +5,7 @@ use Rattle.std.specs.Str.{bytes_eq}
 use Rattle.std.specs.List.{list_any, slice_split}
 use Rattle.std.proofs.lemmas.Option.{cond_some}
 use Rattle.sr_script.specs.Address.{address_of}
-use Rattle.sr_run.specs.declared.command.Command.{Command}
-use Rattle.sr_run.specs.declared.command.Command.TheVariants.{One, Make}
-use Rattle.sr_run.specs.Command.{IsInRange, begins_with_dash, command_of, command_of_plain, make_of, one_of}
+use Rattle.sr_run.specs.Command.{Command, One, Make, Audit, IsInRange, begins_with_dash, command_of, command_of_plain, make_of, one_of}
 use Rattle.sr_run.specs.Numbers.{count_of_packets, number_of, packets_in}
 use Rattle.sr_run.specs.Servers.{addresses_of, all_differ, counted, count_of_servers}
 
@@ -58,6 +56,9 @@ make_some None packets c some e = absurd cc
 make_some (Some n) None c some e = absurd cc
 make_some (Some n) (Some p) c some e = let same : Make n p ≡ c = cc in subst IsInRange same (some p refl)
 
+audit_some : (script : List ℕ) (c : Command) → Some (Audit script) ≡ Some c → IsInRange c
+audit_some script c e = let same : Audit script ≡ c = cc in subst IsInRange same tt
+
 either_some : (test : Bool) (a b : Option Command) (c : Command) → ((d : Command) → a ≡ Some d → IsInRange d) → ((d : Command) → b ≡ Some d → IsInRange d) → cond test a b ≡ Some c → IsInRange c
 either_some true a b c first second e = first c e
 either_some false a b c first second e = second c e
@@ -65,7 +66,7 @@ either_some false a b c first second e = second c e
 plain_some : (words : List (List ℕ)) (c : Command) → command_of_plain words ≡ Some c → IsInRange c
 plain_some [] c e = absurd cc
 plain_some (a ∷ []) c e = absurd cc
-plain_some (a ∷ b ∷ []) c e = absurd cc
+plain_some (name ∷ script ∷ []) c e = either_some (bytes_eq name (codes "audit")) (Some (Audit script)) None c (λ d f. audit_some script d f) (λ d f. absurd cc) e
 plain_some (name ∷ first ∷ second ∷ []) c e =
     either_some (bytes_eq name (codes "one")) (one_of first second) _ c
     (λ d f. one_some (address_of first) (count_of_servers second) d (count_some second) f)

@@ -37,10 +37,7 @@ use Rattle.sr_law.specs.TakenDown.{is_known_down}
 use Rattle.sr_law.specs.Ticks.{lines_before, out_of, start_of}
 use Rattle.sr_law.proofs.Clauses.{meets, none_broken}
 use Rattle.sr_run.specs.One.{one_lines, one_pools, one_setup, opening_line, packet_line, packet_lines}
-use Rattle.sr_run.specs.declared.command.Command.{Command}
-use Rattle.sr_run.specs.declared.command.Command.TheVariants.{One, Make}
-use Rattle.sr_run.specs.Command.{IsInRange}
-use Rattle.sr_run.specs.Run.{IsLawfulIn, PrintsLawful, KeepServers, lines_of, lines_in, pools_of}
+use Rattle.sr_run.specs.Run.{IsLawfulIn, PrintsLawful, KeepServers, lines_of, lines_in}
 use Rattle.sr_run.specs.Capture.{packets_from, records_behind}
 use Rattle.sr_pcap.specs.declared.begin_refusal.BeginRefusal.{BeginRefusal}
 use Rattle.sr_pcap.specs.declared.format.Format.{Format}
@@ -316,11 +313,10 @@ lawful_in (Ok format) vip servers bytes some =
     one_is_lawful servers (packets_from format.link vip 1 frames) some (packets_first format.link vip 1 frames)
 lawful_in (Err why) vip servers bytes some = tt
 
--- whatever a command with servers reads
-pub prints_lawful : (c : Command) (bytes : List ℕ) → IsInRange c → PrintsLawful c bytes
+-- whatever is read
+pub prints_lawful : (vip : ℕ × ℕ) (servers : ℕ) (bytes : List ℕ) → 1 ≤ servers → PrintsLawful vip servers bytes
 unfolding PrintsLawful
-prints_lawful (One vip servers) bytes some = lawful_in (header_of bytes) vip servers (drop 24 bytes) some
-prints_lawful (Make number packets) bytes some = tt
+prints_lawful vip servers bytes some = lawful_in (header_of bytes) vip servers (drop 24 bytes) some
 
 -- ---- so each of its connections keeps its server
 
@@ -335,8 +331,7 @@ keeps_in (Ok format) vip servers bytes some =
     one_keeps servers (packets_from format.link vip 1 frames) some (packets_first format.link vip 1 frames)
 keeps_in (Err why) vip servers bytes some = λ i line at. absurd cc
 
--- whatever a command with servers reads
-pub keeps_servers : (c : Command) (bytes : List ℕ) → IsInRange c → KeepServers (pools_of c) (lines_of c bytes)
+-- whatever is read
+pub keeps_servers : (vip : ℕ × ℕ) (servers : ℕ) (bytes : List ℕ) → 1 ≤ servers → KeepServers (one_pools servers) (lines_of vip servers bytes)
 unfolding lines_of
-keeps_servers (One vip servers) bytes some = keeps_in (header_of bytes) vip servers (drop 24 bytes) some
-keeps_servers (Make number packets) bytes some = λ i line at. absurd cc
+keeps_servers vip servers bytes some = keeps_in (header_of bytes) vip servers (drop 24 bytes) some

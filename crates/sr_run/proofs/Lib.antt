@@ -1,4 +1,6 @@
 mod AddressLists
+mod AuditedLines
+mod Auditing
 mod CaptureRecords
 mod CommandServers
 mod Digits
@@ -7,4 +9,5 @@ mod LawfulLines
 mod Parts
 mod PrintedLines
 mod Running
+mod Sorting
 mod Writing

@@ -12,7 +12,7 @@ use Rattle.clap.specs.declared.builder.command.Command.{Command}
 use Rattle.clap.specs.declared.parser.matches.Found.{Found}
 use Rattle.clap.proofs.WalkLemmas.{first_value-rows}
 use Rattle.clap.proofs.OnLiterals.{clap_on_literals}
-use Rattle.sr_run.specs.Command.{IsCommand, begins_with_dash, command_of, command_of_plain, command_of_three, make_of, one_of}
+use Rattle.sr_run.specs.Command.{IsCommand, begins_with_dash, command_of, command_of_plain, command_of_two, command_of_three, Audit, make_of, one_of}
 use Rattle.sr_run.specs.Parting.{before, command_of_form, form_of, parts_of, program, texts, values_of, with_arguments, with_forms}
 
 -- the library takes these words, and its parts are the words
@@ -55,6 +55,20 @@ make_same [] (y ∷ second) e f = simp f
 make_same (x ∷ first) [] e f = simp e
 make_same (x ∷ first) (y ∷ second) e f = simp (e, f)
 
+audit_taken : (script : List ℕ) → begins_with_dash script ≡ false → takes program (codes "audit" ∷ script ∷ []) ≡ true
+unfolding clap_on_literals
+audit_taken [] e = refl
+audit_taken (x ∷ script) e = simp e
+
+audit_same : (script : List ℕ) → begins_with_dash script ≡ false → parts_of (subcommand_of program (codes "audit" ∷ script ∷ [])) ≡ codes "audit" ∷ script ∷ []
+unfolding clap_on_literals
+audit_same [] e = refl
+audit_same (x ∷ script) e = simp e
+
+-- the command of one argument
+audit_parts : (script : List ℕ) → begins_with_dash script ≡ false → Parts (codes "audit" ∷ script ∷ [])
+audit_parts script e = record { taken = audit_taken script e; same = audit_same script e }
+
 -- the commands of two arguments
 one_parts : (first second : List ℕ) → begins_with_dash first ≡ false → begins_with_dash second ≡ false → Parts (codes "one" ∷ first ∷ second ∷ [])
 one_parts first second e f = record { taken = one_taken first second e f; same = one_same first second e f }
@@ -67,25 +81,35 @@ either_false true b e = absurd cc
 either_false false b e = (refl, e)
 
 -- the name is that of the command
-named : (name known first second : List ℕ) → bytes_eq name known ≡ true → Parts (known ∷ first ∷ second ∷ []) → Parts (name ∷ first ∷ second ∷ [])
-named name known first second e parts = subst (λ n. Parts (n ∷ first ∷ second ∷ [])) (sym ((bytes_eq-Decides name known).0 e)) parts
+named : (name known : List ℕ) (arguments : List (List ℕ)) → bytes_eq name known ≡ true → Parts (known ∷ arguments) → Parts (name ∷ arguments)
+named name known arguments e parts = subst (λ n. Parts (n ∷ arguments)) (sym ((bytes_eq-Decides name known).0 e)) parts
+
+two_parts : (name script : List ℕ) → begins_with_dash script ≡ false → IsSome (command_of_two name script) → Parts (name ∷ script ∷ [])
+two_parts name script e some = is_audit (bytes_eq name (codes "audit")) refl some
+  where
+    is_audit : (b : Bool) → bytes_eq name (codes "audit") ≡ b → IsSome (cond b (Some (Audit script)) None) → Parts (name ∷ script ∷ [])
+    is_audit true same some = named name (codes "audit") (script ∷ []) same (audit_parts script e)
+    is_audit false other some = absurd (false≢true some)
 
 three_parts : (name first second : List ℕ) → begins_with_dash first ≡ false → begins_with_dash second ≡ false
     → IsSome (command_of_three name first second) → Parts (name ∷ first ∷ second ∷ [])
 three_parts name first second e f some = is_one (bytes_eq name (codes "one")) refl some
   where
     is_make : (b : Bool) → bytes_eq name (codes "make") ≡ b → IsSome (cond b (make_of first second) None) → Parts (name ∷ first ∷ second ∷ [])
-    is_make true same some = named name (codes "make") first second same (make_parts first second e f)
+    is_make true same some = named name (codes "make") (first ∷ second ∷ []) same (make_parts first second e f)
     is_make false other some = absurd (false≢true some)
 
     is_one : (b : Bool) → bytes_eq name (codes "one") ≡ b → IsSome (cond b (one_of first second) (cond (bytes_eq name (codes "make")) (make_of first second) None)) → Parts (name ∷ first ∷ second ∷ [])
-    is_one true same some = named name (codes "one") first second same (one_parts first second e f)
+    is_one true same some = named name (codes "one") (first ∷ second ∷ []) same (one_parts first second e f)
     is_one false other some = is_make (bytes_eq name (codes "make")) refl some
 
 plain_parts : (words : List (List ℕ)) → list_any begins_with_dash words ≡ false → IsSome (command_of_plain words) → Parts words
 plain_parts [] e some = absurd (false≢true some)
 plain_parts (name ∷ []) e some = absurd (false≢true some)
-plain_parts (name ∷ first ∷ []) e some = absurd (false≢true some)
+plain_parts (name ∷ script ∷ []) e some =
+    let one = either_false _ _ e in
+    let two = either_false _ _ one.1 in
+    two_parts name script two.0 some
 plain_parts (name ∷ first ∷ second ∷ []) e some =
     let one = either_false _ _ e in
     let two = either_false _ _ one.1 in

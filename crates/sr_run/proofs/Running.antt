@@ -6,19 +6,16 @@ use Rattle.sr_pcap.specs.declared.begin_refusal.BeginRefusal.{BeginRefusal}
 use Rattle.sr_pcap.specs.declared.format.Format.{Format}
 use Rattle.sr_pcap.specs.Format.{header_of}
 use Rattle.sr_run.specs.declared.capture.Captured.{Captured}
-use Rattle.sr_run.specs.declared.command.Command.{Command}
-use Rattle.sr_run.specs.declared.command.Command.TheVariants.{One, Make}
 use Rattle.sr_run.specs.declared.status.CaptureRefusal.{CaptureRefusal}
 use Rattle.sr_run.specs.declared.status.Status.{Status}
-use Rattle.sr_run.specs.declared.status.Status.TheVariants.{Done, Usage, Capture, ReadFault, WriteFault, Memory}
+use Rattle.sr_run.specs.declared.status.Status.TheVariants.{Done, Usage, Script, Capture, ReadFault, WriteFault, Memory, Breach}
 use Rattle.sr_run.specs.Capture.{Keeps, header_refusal, records_behind, skips_from}
-use Rattle.sr_run.specs.Make.{Makes}
 use Rattle.sr_run.specs.One.{one_text}
 use Rattle.sr_run.specs.Run.{Answers, EndsPrinting, refusal_of, refusal_in, printed, printed_in}
 
 -- a refused header
 pub answers_refused : (vip : ℕ × ℕ) (servers : ℕ) (xs : List ℕ) (left old : Option (List ℕ)) (why : CaptureRefusal) (refused : BeginRefusal)
-    → header_of xs ≡ Err refused → why ≡ header_refusal refused → Answers (Capture why) (One vip servers) xs left old old
+    → header_of xs ≡ Err refused → why ≡ header_refusal refused → Answers (Capture why) vip servers xs left old old
 unfolding refusal_of printed
 answers_refused vip servers xs left old why refused header is = (
   ap (λ h. refusal_in h (drop 24 xs)) header ∙ ap Some (sym is),
@@ -28,50 +25,36 @@ answers_refused vip servers xs left old why refused header is = (
 -- a capture that was read, and what was printed of it
 pub answers_read : (vip : ℕ × ℕ) (servers : ℕ) (xs : List ℕ) (left old new : Option (List ℕ)) (status : Status) (captured : Captured) (format : Format)
     → header_of xs ≡ Ok format → Keeps format vip (drop 24 xs) left captured.skips.items captured.packets.items captured.ending
-    → EndsPrinting status captured.ending (one_text servers captured.skips.items captured.packets.items) old new → Answers status (One vip servers) xs left old new
+    → EndsPrinting status captured.ending (one_text servers captured.skips.items captured.packets.items) old new → Answers status vip servers xs left old new
 unfolding refusal_of printed
 answers_read vip servers xs left old new status captured format header keeps ends = by_status status ends
   where
-    refusal : refusal_of (One vip servers) xs ≡ captured.ending
+    refusal : refusal_of xs ≡ captured.ending
     refusal = ap (λ h. refusal_in h (drop 24 xs)) header ∙ sym keeps.ending_is
 
-    text : one_text servers captured.skips.items captured.packets.items ≡ printed (One vip servers) xs
+    text : one_text servers captured.skips.items captured.packets.items ≡ printed vip servers xs
     text =
         ap (λ k. one_text servers k captured.packets.items) keeps.skips_are
         ∙ ap (λ k. one_text servers (skips_from format.link vip 1 (records_behind format (drop 24 xs)).frames) k) keeps.packets_are
         ∙ sym (ap (λ h. printed_in h vip servers (drop 24 xs)) header)
 
-    by_status : (status : Status) → EndsPrinting status captured.ending (one_text servers captured.skips.items captured.packets.items) old new → Answers status (One vip servers) xs left old new
+    by_status : (status : Status) → EndsPrinting status captured.ending (one_text servers captured.skips.items captured.packets.items) old new → Answers status vip servers xs left old new
     by_status Done ends = (refusal ∙ ends.0, keeps.all ends.0, subst (λ t. Adds old new t) text ends.1)
     by_status Usage ends = absurd ends
+    by_status (Script refusal) ends = absurd ends
     by_status (Capture why) ends = (refusal ∙ ends.0, subst (λ t. Adds old new t) text ends.1)
     by_status ReadFault ends = absurd ends
     by_status WriteFault ends = subst (λ t. AddsFront old new t) text ends
     by_status Memory ends = absurd ends
+    by_status (Breach line what) ends = absurd ends
 
 -- printing ends in none of the statuses of the words
 pub prints_a_command : (status : Status) (ending : Option CaptureRefusal) (text : List ℕ) (old new : Option (List ℕ)) → EndsPrinting status ending text old new → status ≡ Usage → ⊥
 prints_a_command Done ending text old new ends same = cc
 prints_a_command Usage ending text old new ends same = ends
+prints_a_command (Script refusal) ending text old new ends same = ends
 prints_a_command (Capture why) ending text old new ends same = cc
 prints_a_command ReadFault ending text old new ends same = ends
 prints_a_command WriteFault ending text old new ends same = cc
 prints_a_command Memory ending text old new ends same = ends
-
--- a capture that was made from a number, whatever there was to read
-pub answers_made : (number packets : ℕ) (xs : List ℕ) (left old new : Option (List ℕ)) (status : Status) → left ≡ Some xs → Makes status number packets old new
-    → Answers status (Make number packets) xs left old new
-unfolding refusal_of printed
-answers_made number packets xs left old new Done same made = (refl, same, made)
-answers_made number packets xs left old new Usage same made = made
-answers_made number packets xs left old new (Capture why) same made = absurd made
-answers_made number packets xs left old new ReadFault same made = absurd made
-answers_made number packets xs left old new WriteFault same made = made
-answers_made number packets xs left old new Memory same made = made
-
--- the command that was read is the one that the words are
-pub answers_read_command : (number packets : ℕ) (read : Option Command) (c : Command) (xs : List ℕ) (left old new : Option (List ℕ)) (status : Status)
-    → Some (Make number packets) ≡ read → read ≡ Some c → left ≡ Some xs → Makes status number packets old new → Answers status c xs left old new
-answers_read_command number packets read c xs left old new status was is same made =
-    let one : Make number packets ≡ c = cc in
-    subst (λ d. Answers status d xs left old new) one (answers_made number packets xs left old new status same made)
+prints_a_command (Breach line what) ending text old new ends same = ends

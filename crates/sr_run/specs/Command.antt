@@ -1,12 +1,18 @@
 -- The commands of the program.
-use Rattle.std.specs.Prelude.{ℕ, ◌≤◌, ◌==◌, Bool, false, if◌then◌else◌, List, [], ◌∷◌, codes, Option, None, IsSome, option_map, option_and_then}
+use Rattle.std.specs.Prelude.{ℕ, ◌≤◌, ◌==◌, Bool, false, if◌then◌else◌, List, [], ◌∷◌, codes, Option, Some, None, IsSome, option_map, option_and_then}
 use Rattle.std.specs.List.{list_any}
 use Rattle.std.specs.Str.{bytes_eq}
 use Rattle.sr_script.specs.Address.{address_of}
 use Rattle.sr_run.specs.Numbers.{count_of_packets, number_of}
 use Rattle.sr_run.specs.Servers.{count_of_servers}
-use Rattle.sr_run.specs.declared.command.Command.{Command}
-use Rattle.sr_run.specs.declared.command.Command.TheVariants.{One, Make}
+use Rattle.sr_run.specs.declared.command.Command.{Command as Read}
+use Rattle.sr_run.specs.declared.command.Command.TheVariants as read
+
+-- what the words ask for: an address, and how many servers share it; a number, and how many packets; the name of a script
+pub data Command : Type 0 where
+  One : ℕ × ℕ → ℕ → Command
+  Make : ℕ → ℕ → Command
+  Audit : List ℕ → Command
 
 -- one VIP SERVERS
 abbrev pub one_of : List ℕ → List ℕ → Option Command
@@ -16,6 +22,10 @@ one_of vip servers = option_and_then (λ v. option_map (λ n. One v n) (count_of
 abbrev pub make_of : List ℕ → List ℕ → Option Command
 make_of number packets = option_and_then (λ n. option_map (λ p. Make n p) (count_of_packets packets)) (number_of number)
 
+-- the command of two words: audit SCRIPT
+abbrev pub command_of_two : List ℕ → List ℕ → Option Command
+command_of_two name script = if bytes_eq name (codes "audit") then Some (Audit script) else None
+
 -- the command of three words
 abbrev pub command_of_three : List ℕ → List ℕ → List ℕ → Option Command
 command_of_three name first second =
@@ -24,6 +34,7 @@ command_of_three name first second =
 
 -- the command of words none of which begins with `-`
 abbrev pub command_of_plain : List (List ℕ) → Option Command
+command_of_plain (name ∷ first ∷ []) = command_of_two name first
 command_of_plain (name ∷ first ∷ second ∷ []) = command_of_three name first second
 command_of_plain _ = None
 
@@ -40,7 +51,14 @@ command_of words = if list_any begins_with_dash words then None else command_of_
 abbrev pub IsCommand : List (List ℕ) → Type 0
 IsCommand words = IsSome (command_of words)
 
+-- the command as the code has it
+abbrev pub seen : Read → Command
+seen (read.One vip servers) = One vip servers
+seen (read.Make number packets) = Make number packets
+seen (read.Audit script) = Audit script.now
+
 -- its numbers are in range: it has a server; it has packets, and no more than a capture may have
 abbrev pub IsInRange : Command → Type 0
 IsInRange (One vip servers) = 1 ≤ servers
 IsInRange (Make number packets) = (1 ≤ packets) × (packets ≤ 4194304)
+IsInRange (Audit script) = Unit {0}

@@ -1,9 +1,12 @@
+pub mod Audit
 pub mod Capture
 pub mod Command
 pub mod Make
+pub mod Numbering
 pub mod Numbers
 pub mod One
 pub mod Parting
 pub mod Run
+pub mod ScriptText
 pub mod Servers
 pub mod Status

@@ -1,6 +1,5 @@
 -- What a run of the program does to what it reads and prints.
 use Rattle.std.specs.Prelude.{◌≡◌, ℕ, List, [], drop, Option, Some, None, Result, Ok, Err, IsTrue, slice_get}
-use Rattle.sr_gen.specs.Capture.{capture_of}
 use Rattle.sr_io.specs.Sink.{Adds, AddsFront}
 use Rattle.sr_io.specs.declared.sink.Put.{Put}
 use Rattle.sr_io.specs.declared.sink.Put.TheVariants as put
@@ -13,11 +12,9 @@ use Rattle.sr_law.specs.Ticks.{lines_before}
 use Rattle.sr_pcap.specs.declared.begin_refusal.BeginRefusal.{BeginRefusal}
 use Rattle.sr_pcap.specs.declared.format.Format.{Format}
 use Rattle.sr_pcap.specs.Format.{header_of}
-use Rattle.sr_run.specs.declared.command.Command.{Command}
-use Rattle.sr_run.specs.declared.command.Command.TheVariants.{One, Make}
 use Rattle.sr_run.specs.declared.status.CaptureRefusal.{CaptureRefusal}
 use Rattle.sr_run.specs.declared.status.Status.{Status}
-use Rattle.sr_run.specs.declared.status.Status.TheVariants.{Done, Usage, Capture, ReadFault, WriteFault, Memory}
+use Rattle.sr_run.specs.declared.status.Status.TheVariants.{Done, Usage, Script, Capture, ReadFault, WriteFault, Memory, Breach}
 use Rattle.sr_run.specs.Capture.{records_behind, ending_of, packets_from, skips_from, header_refusal}
 use Rattle.sr_run.specs.One.{one_lines, one_pools, one_setup, one_text}
 
@@ -38,25 +35,17 @@ abbrev pub lines_in : Result Format BeginRefusal → ℕ × ℕ → ℕ → List
 lines_in (Ok format) vip servers bytes = one_lines servers (packets_from format.link vip 1 (records_behind format bytes).frames)
 lines_in (Err why) vip servers bytes = []
 
--- why a command refuses these bytes, if it does
-unfoldable pub refusal_of : Command → List ℕ → Option CaptureRefusal
-refusal_of (One vip servers) bytes = refusal_in (header_of bytes) (drop 24 bytes)
-refusal_of (Make number packets) bytes = None
+-- why these bytes are refused, if they are
+unfoldable pub refusal_of : List ℕ → Option CaptureRefusal
+refusal_of bytes = refusal_in (header_of bytes) (drop 24 bytes)
 
--- what a command prints of these bytes: of a capture that is refused in a record the whole records before it
-unfoldable pub printed : Command → List ℕ → List ℕ
-printed (One vip servers) bytes = printed_in (header_of bytes) vip servers (drop 24 bytes)
-printed (Make number packets) bytes = capture_of number packets
+-- what `one` prints of these bytes: of a capture that is refused in a record the whole records before it
+unfoldable pub printed : ℕ × ℕ → ℕ → List ℕ → List ℕ
+printed vip servers bytes = printed_in (header_of bytes) vip servers (drop 24 bytes)
 
--- the lines among what a command prints of these bytes
-unfoldable pub lines_of : Command → List ℕ → List Line
-lines_of (One vip servers) bytes = lines_in (header_of bytes) vip servers (drop 24 bytes)
-lines_of (Make number packets) bytes = []
-
--- the pools of a command, by virtual address and number
-abbrev pub pools_of : Command → List VipPools
-pools_of (One vip servers) = one_pools servers
-pools_of (Make number packets) = []
+-- the lines among what `one` prints of these bytes
+unfoldable pub lines_of : ℕ × ℕ → ℕ → List ℕ → List Line
+lines_of vip servers bytes = lines_in (header_of bytes) vip servers (drop 24 bytes)
 
 -- After these lines a line keeps to its connection's server: while the connection is open the line has its opening's pool, and its server is
 -- the one that the key's hash picks from that pool.
@@ -74,34 +63,32 @@ IsLawfulIn (Ok format) vip servers bytes =
     IsLawful (one_setup servers packets) (one_lines servers packets)
 IsLawfulIn (Err why) vip servers bytes = Unit {0}
 
--- The lines that a command prints of these bytes are lawful for its setup: no line breaks a clause by the lines before it, and each packet
--- has its final line. Where the header is refused, and of a command that prints no lines, nothing is said.
-unfoldable pub PrintsLawful : Command → List ℕ → Type 0
-PrintsLawful (One vip servers) bytes = IsLawfulIn (header_of bytes) vip servers (drop 24 bytes)
-PrintsLawful (Make number packets) bytes = Unit {0}
+-- The lines that `one` prints of these bytes are lawful for its setup: no line breaks a clause by the lines before it, and each packet
+-- has its final line. Where the header is refused there are none.
+unfoldable pub PrintsLawful : ℕ × ℕ → ℕ → List ℕ → Type 0
+PrintsLawful vip servers bytes = IsLawfulIn (header_of bytes) vip servers (drop 24 bytes)
 
--- the bytes that a command which is done has left: none, or all of them where it reads nothing
-abbrev pub left_by : Command → List ℕ → List ℕ
-left_by (One vip servers) bytes = []
-left_by (Make number packets) bytes = bytes
-
--- What each status says of a command over these bytes: what is left of them, and what the sink took.
-abbrev pub Answers : Status → Command → List ℕ → Option (List ℕ) → Option (List ℕ) → Option (List ℕ) → Type 0
-Answers Done c bytes left old new = (refusal_of c bytes ≡ None) × (left ≡ Some (left_by c bytes)) × Adds old new (printed c bytes)
-Answers Usage c bytes left old new = ⊥
-Answers (Capture why) c bytes left old new = (refusal_of c bytes ≡ Some why) × Adds old new (printed c bytes)
-Answers ReadFault c bytes left old new = Adds old new []
-Answers WriteFault c bytes left old new = AddsFront old new (printed c bytes)
-Answers Memory c bytes left old new = Adds old new []
+-- What each status says of `one` over these bytes: what is left of them, and what the sink took.
+abbrev pub Answers : Status → ℕ × ℕ → ℕ → List ℕ → Option (List ℕ) → Option (List ℕ) → Option (List ℕ) → Type 0
+Answers Done vip servers bytes left old new = (refusal_of bytes ≡ None) × (left ≡ Some []) × Adds old new (printed vip servers bytes)
+Answers Usage vip servers bytes left old new = ⊥
+Answers (Script refusal) vip servers bytes left old new = ⊥
+Answers (Capture why) vip servers bytes left old new = (refusal_of bytes ≡ Some why) × Adds old new (printed vip servers bytes)
+Answers ReadFault vip servers bytes left old new = Adds old new []
+Answers WriteFault vip servers bytes left old new = AddsFront old new (printed vip servers bytes)
+Answers Memory vip servers bytes left old new = Adds old new []
+Answers (Breach line what) vip servers bytes left old new = ⊥
 
 -- after these statuses nothing was written
 abbrev pub WritesNothing : Status → Option (List ℕ) → Option (List ℕ) → Type 0
 WritesNothing Done old new = Unit {0}
 WritesNothing Usage old new = Adds old new []
+WritesNothing (Script refusal) old new = Adds old new []
 WritesNothing (Capture why) old new = Unit {0}
 WritesNothing ReadFault old new = Adds old new []
 WritesNothing WriteFault old new = Unit {0}
 WritesNothing Memory old new = Adds old new []
+WritesNothing (Breach line what) old new = Adds old new []
 
 -- the status after printing, where the capture ended so
 abbrev pub finished : Put → Option CaptureRefusal → Status
@@ -113,7 +100,9 @@ finished put.All (Some why) = Capture why
 abbrev pub EndsPrinting : Status → Option CaptureRefusal → List ℕ → Option (List ℕ) → Option (List ℕ) → Type 0
 EndsPrinting Done ending text old new = (ending ≡ None) × Adds old new text
 EndsPrinting Usage ending text old new = ⊥
+EndsPrinting (Script refusal) ending text old new = ⊥
 EndsPrinting (Capture why) ending text old new = (ending ≡ Some why) × Adds old new text
 EndsPrinting ReadFault ending text old new = ⊥
 EndsPrinting WriteFault ending text old new = AddsFront old new text
 EndsPrinting Memory ending text old new = ⊥
+EndsPrinting (Breach line what) ending text old new = ⊥

@@ -1,8 +1,11 @@
 -- What the program ends with.
-use Rattle.std.specs.Prelude.{ℕ, List, [], ◌∷◌, ◌++◌, codes}
+use Rattle.std.specs.Prelude.{ℕ, List, [], ◌∷◌, ◌++◌, codes, string_bytes}
 use Rattle.std.specs.Fmt.{decimal}
+use Rattle.sr_law.specs.declared.clause.Clause.{Clause}
+use Rattle.sr_law.specs.declared.clause.Clause.TheVariants as clause
+use Rattle.sr_script.specs.Why.{word_of}
 use Rattle.sr_run.specs.declared.status.Status.{Status}
-use Rattle.sr_run.specs.declared.status.Status.TheVariants.{Done, Usage, Capture, ReadFault, WriteFault, Memory}
+use Rattle.sr_run.specs.declared.status.Status.TheVariants.{Done, Usage, Script, Capture, ReadFault, WriteFault, Memory, Breach}
 use Rattle.sr_run.specs.declared.status.CaptureRefusal.{CaptureRefusal}
 use Rattle.sr_run.specs.declared.status.CaptureRefusal.TheVariants.{Cut, TooLong, TooMany, Magic, Major, LinkType}
 
@@ -10,10 +13,12 @@ use Rattle.sr_run.specs.declared.status.CaptureRefusal.TheVariants.{Cut, TooLong
 abbrev pub code_of : Status → ℕ
 code_of Done = 0
 code_of Usage = 1
+code_of (Script refusal) = 2
 code_of (Capture why) = 3
 code_of ReadFault = 4
 code_of WriteFault = 5
 code_of Memory = 6
+code_of (Breach line what) = 8
 
 -- why a capture was refused, before what follows
 abbrev pub capture_words : CaptureRefusal → List ℕ → List ℕ
@@ -24,11 +29,30 @@ capture_words Magic rest = codes "magic" ++ rest
 capture_words Major rest = codes "major" ++ rest
 capture_words LinkType rest = codes "link type" ++ rest
 
+-- where a script is at fault: nothing where the whole text is
+abbrev pub path_words : List ℕ → List ℕ
+path_words [] = 10 ∷ []
+path_words (byte ∷ path) = (32 ∷ byte ∷ path) ++ (10 ∷ [])
+
+-- what a line breaks
+abbrev pub clause_word : Clause → List ℕ
+clause_word clause.Text = codes "text"
+clause_word clause.Order = codes "order"
+clause_word clause.Server = codes "server"
+clause_word clause.Same = codes "same"
+clause_word clause.Newer = codes "newer"
+clause_word clause.Number = codes "number"
+clause_word clause.Cause = codes "cause"
+clause_word clause.Retire = codes "retire"
+clause_word clause.Final = codes "final"
+
 -- the line on standard error
 unfoldable pub status_text : Status → List ℕ
 status_text Done = []
 status_text Usage = codes "silkroad: usage: one VIP SERVERS, replay SCRIPT, audit SCRIPT, make N PACKETS, demo N, steps SCRIPT SEED\n"
+status_text (Script refusal) = (codes "silkroad: script: " ++ word_of refusal.why) ++ path_words (string_bytes refusal.path)
 status_text (Capture why) = codes "silkroad: capture: " ++ capture_words why (10 ∷ [])
 status_text ReadFault = codes "silkroad: read fault\n"
 status_text WriteFault = codes "silkroad: write fault\n"
 status_text Memory = codes "silkroad: no memory\n"
+status_text (Breach line what) = codes "silkroad: audit: line " ++ (decimal line ++ (codes " breaks " ++ (clause_word what ++ (10 ∷ []))))

@@ -1,6 +1,6 @@
-ghost use Rattle.std.specs.Prelude.{◌≡◌, IfOk, IfSome, map, string_bytes};
+ghost use Rattle.std.specs.Prelude.{◌≡◌, IfOk, IfSome, map, option_map, string_bytes};
 ghost use Rattle.std.specs.List.{list_any};
-ghost use Rattle.sr_run.specs.Command.{IsInRange, begins_with_dash, command_of, command_of_plain, make_of, one_of};
+ghost use Rattle.sr_run.specs.Command.{IsInRange, begins_with_dash, command_of, command_of_plain, make_of, one_of, seen};
 ghost use Rattle.sr_run.specs.Parting.{texts};
 
 use crate::numbers::{count_of_packets, number_of};
@@ -11,7 +11,7 @@ use std::alloc::{AllocError, Global};
 
 /// What the words after the program's name ask for.
 #[derive(Clone, Copy, Debug, PartialEq, Eq)]
-pub enum Command {
+pub(crate) enum Command<'a> {
     /// A capture and one pool: `one VIP SERVERS`.
     One {
         /// The virtual address: IPv4 address and TCP port.
@@ -26,12 +26,20 @@ pub enum Command {
         /// How many packets the capture has, 1 to 4,194,304.
         packets: u32,
     },
+    /// A log and a script: `audit SCRIPT`.
+    Audit {
+        /// The name of the script.
+        script: &'a str,
+    },
 }
 
 /// The command that the words are; None where they are none. Words that are one are parted by the command-line library, and read from its parts.
-pub(crate) fn read_command(alloc: Global, words: &[String]) -> Result<Option<Command>, AllocError>
-    ensures value { IfOk result (λ c. c ≡ command_of (map string_bytes words.now)) }
-    ensures some { IfOk result (λ c. IfSome c IsInRange) }
+pub(crate) fn read_command<'a>(
+    alloc: Global,
+    words: &'a [String],
+) -> Result<Option<Command<'a>>, AllocError>
+    ensures value { IfOk result (λ c. option_map seen c ≡ command_of (map string_bytes words.entry.now)) }
+    ensures some { IfOk result (λ c. IfSome c (λ x. IsInRange (seen x))) }
 {
     let texts = texts_of(alloc, words)?;
     match command_of(alloc, &texts)? {
@@ -53,9 +61,9 @@ fn texts_of<'a>(alloc: Global, words: &'a [String]) -> Result<Vec<&'a str>, Allo
 
 // The command that these words are.
 #[tactic(auto, unfolding(crate::specs::Command::command_of))]
-fn command_of(alloc: Global, words: &[&str]) -> Result<Option<Command>, AllocError>
-    ensures value { IfOk result (λ c. c ≡ command_of (texts words.now)) }
-    ensures some { IfOk result (λ c. IfSome c IsInRange) }
+fn command_of<'a>(alloc: Global, words: &[&'a str]) -> Result<Option<Command<'a>>, AllocError>
+    ensures value { IfOk result (λ c. option_map seen c ≡ command_of (texts words.now)) }
+    ensures some { IfOk result (λ c. IfSome c (λ x. IsInRange (seen x))) }
 {
     if any_begins_with_dash(words) {
         Ok(None)
@@ -87,11 +95,18 @@ fn begins_with_dash(word: &str) -> bool
 }
 
 // The command that these words are, none of which begins with `-`.
-fn command_of_plain(alloc: Global, words: &[&str]) -> Result<Option<Command>, AllocError>
-    ensures value { IfOk result (λ c. c ≡ command_of_plain (texts words.now)) }
-    ensures some { IfOk result (λ c. IfSome c IsInRange) }
+fn command_of_plain<'a>(alloc: Global, words: &[&'a str]) -> Result<Option<Command<'a>>, AllocError>
+    ensures value { IfOk result (λ c. option_map seen c ≡ command_of_plain (texts words.now)) }
+    ensures some { IfOk result (λ c. IfSome c (λ x. IsInRange (seen x))) }
 {
     match words {
+        [name, script] => {
+            if *name == "audit" {
+                Ok(Some(Command::Audit { script: *script }))
+            } else {
+                Ok(None)
+            }
+        }
         [name, first, second] => {
             if *name == "one" {
                 read_one(alloc, *first, *second)
@@ -106,9 +121,9 @@ fn command_of_plain(alloc: Global, words: &[&str]) -> Result<Option<Command>, Al
 }
 
 // The command `one` with these words.
-fn read_one(alloc: Global, vip: &str, servers: &str) -> Result<Option<Command>, AllocError>
-    ensures value { IfOk result (λ c. c ≡ one_of vip.now servers.now) }
-    ensures some { IfOk result (λ c. IfSome c IsInRange) }
+fn read_one<'a>(alloc: Global, vip: &str, servers: &str) -> Result<Option<Command<'a>>, AllocError>
+    ensures value { IfOk result (λ c. option_map seen c ≡ one_of vip.now servers.now) }
+    ensures some { IfOk result (λ c. IfSome c (λ x. IsInRange (seen x))) }
 {
     let Some(vip) = address(vip) else {
         return Ok(None);
@@ -120,9 +135,9 @@ fn read_one(alloc: Global, vip: &str, servers: &str) -> Result<Option<Command>, 
 }
 
 // The command `make` with these words.
-fn read_make(number: &str, packets: &str) -> Option<Command>
-    ensures value { result ≡ make_of number.now packets.now }
-    ensures some { IfSome result IsInRange }
+fn read_make<'a>(number: &str, packets: &str) -> Option<Command<'a>>
+    ensures value { option_map seen result ≡ make_of number.now packets.now }
+    ensures some { IfSome result (λ x. IsInRange (seen x)) }
 {
     let number = number_of(number)?;
     let packets = count_of_packets(packets)?;

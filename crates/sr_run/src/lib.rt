@@ -5,17 +5,20 @@
 //! `make_capture` are the commands. `status` is how a run ends.
 #![tactic(auto)]
 
+mod audit;
 mod capture;
 mod command;
+mod judged;
 mod make_capture;
+mod numbering;
 mod numbers;
 mod one;
 mod parting;
 mod print_log;
+mod script_text;
 mod servers;
 mod status;
 mod top;
 
-pub use command::Command;
 pub use status::{CaptureRefusal, Status};
 pub use top::run;

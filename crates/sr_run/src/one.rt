@@ -2,7 +2,6 @@ ghost use Rattle.std.specs.Prelude.{◌≡◌, ◌≢◌, ◌≤◌, List, ℕ, 
 ghost use Rattle.sr_io.specs.Faults.{Rose};
 ghost use Rattle.sr_run.specs.Run.{Answers, WritesNothing, EndsPrinting, finished};
 ghost use Rattle.sr_run.specs.One.{one_text};
-ghost use Rattle.sr_run.specs.declared.command.Command.TheVariants.{One};
 ghost use Rattle.sr_run.specs.declared.status.Status.TheVariants as status;
 
 use crate::capture::{Captured, Reading, read_capture};
@@ -20,7 +19,7 @@ pub(crate) fn run_one<S: Source, K: Sink>(
     sink: &mut K,
 ) -> Status
     requires { 1 ≤ servers }
-    ensures one { (xs : List ℕ) → S.left source.old ≡ Some xs → Answers result (One vip servers) xs (S.left source.new) (K.taken sink.old) (K.taken sink.new) }
+    ensures one { (xs : List ℕ) → S.left source.old ≡ Some xs → Answers result vip servers xs (S.left source.new) (K.taken sink.old) (K.taken sink.new) }
     ensures a_command { result ≢ status.Usage }
     ensures quiet { WritesNothing result (K.taken sink.old) (K.taken sink.new) }
     ensures source_count { S.faults source.old ≤ S.faults source.new }

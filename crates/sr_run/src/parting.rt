@@ -11,7 +11,11 @@ use std::alloc::{AllocError, Global};
 type Form = (&'static str, &'static [&'static str]);
 
 // The commands.
-const FORMS: [Form; 2] = [("one", &["VIP", "SERVERS"]), ("make", &["N", "PACKETS"])];
+const FORMS: [Form; 3] = [
+    ("one", &["VIP", "SERVERS"]),
+    ("make", &["N", "PACKETS"]),
+    ("audit", &["SCRIPT"]),
+];
 
 /// Parts the words of a command: its name, and then the text of each of its arguments. Any error is want of memory.
 pub(crate) fn part<'a>(alloc: Global, words: &'a [String]) -> Result<Vec<&'a str>, AllocError>

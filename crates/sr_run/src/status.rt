@@ -3,9 +3,11 @@ ghost use Rattle.std.specs.Fmt.{decimal};
 ghost use Rattle.sr_io.specs.Faults.{Rose};
 ghost use Rattle.sr_io.specs.Sink.{Puts};
 ghost use Rattle.sr_io.specs.declared.sink.Put.TheVariants as put;
-ghost use Rattle.sr_run.specs.Status.{code_of, status_text, capture_words};
+ghost use Rattle.sr_run.specs.Status.{code_of, status_text, capture_words, clause_word, path_words};
 
 use sr_io::{Put, Sink};
+use sr_law::Clause;
+use sr_script::ScriptRefusal;
 use sr_text::LineText;
 
 /// Why a capture was refused.
@@ -35,12 +37,14 @@ pub enum CaptureRefusal {
 }
 
 /// How a run ended.
-#[derive(Clone, Copy, Debug, PartialEq, Eq)]
+#[derive(Debug, Drop, PartialEq, Eq)]
 pub enum Status {
     /// All is done.
     Done,
     /// The words are no command.
     Usage,
+    /// The script was refused; nothing else was read.
+    Script(ScriptRefusal),
     /// The capture was refused; what was read before a refused record was run and printed.
     Capture(CaptureRefusal),
     /// The source or the shelf failed.
@@ -49,6 +53,13 @@ pub enum Status {
     WriteFault,
     /// No memory was found; nothing was printed.
     Memory,
+    /// An audited log is no text of the grammar, or isn't lawful.
+    Breach {
+        /// The line of the text, from 1; for `Final` one past the last.
+        line: u64,
+        /// What it breaks.
+        clause: Clause,
+    },
 }
 
 impl Status {
@@ -56,13 +67,15 @@ impl Status {
     pub fn code(&self) -> u8
         ensures { result ≡ code_of self.now }
     {
-        match *self {
+        match self {
             Status::Done => 0,
             Status::Usage => 1,
+            Status::Script(_) => 2,
             Status::Capture(_) => 3,
             Status::ReadFault => 4,
             Status::WriteFault => 5,
             Status::Memory => 6,
+            Status::Breach { .. } => 8,
         }
     }
 
@@ -73,16 +86,90 @@ impl Status {
         ensures count { K.faults sink.old ≤ K.faults sink.new }
         ensures failed { result ≡ put.Failed → Rose (K.faults sink.old) (K.faults sink.new) }
     {
-        match *self {
+        match self {
             Status::Done => sink.write(b""),
             Status::Usage => sink.write(
                 b"silkroad: usage: one VIP SERVERS, replay SCRIPT, audit SCRIPT, make N PACKETS, demo N, steps SCRIPT SEED\n",
             ),
-            Status::Capture(why) => capture_text(why, sink),
+            Status::Script(refusal) => script_text(refusal, sink),
+            Status::Capture(why) => capture_text(*why, sink),
             Status::ReadFault => sink.write(b"silkroad: read fault\n"),
             Status::WriteFault => sink.write(b"silkroad: write fault\n"),
             Status::Memory => sink.write(b"silkroad: no memory\n"),
+            Status::Breach { line, clause } => breach_text(*line, *clause, sink),
         }
+    }
+}
+
+// Appends the line that says why a script was refused, and where.
+fn script_text<K: Sink>(refusal: &ScriptRefusal, sink: &mut K) -> Put
+    ensures bytes { Puts result (K.taken sink.old) (K.taken sink.new) (status_text (Status.Script refusal.now)) }
+    ensures count { K.faults sink.old ≤ K.faults sink.new }
+    ensures failed { result ≡ put.Failed → Rose (K.faults sink.old) (K.faults sink.new) }
+{
+    match write_both(b"silkroad: script: ", refusal.why.word().as_bytes(), sink) {
+        Put::All => path_text(refusal.path.as_bytes(), sink),
+        Put::Failed => Put::Failed,
+    }
+}
+
+// Appends where a script is at fault, and the line's end.
+fn path_text<K: Sink>(path: &[u8], sink: &mut K) -> Put
+    ensures bytes { Puts result (K.taken sink.old) (K.taken sink.new) (path_words path.now) }
+    ensures count { K.faults sink.old ≤ K.faults sink.new }
+    ensures failed { result ≡ put.Failed → Rose (K.faults sink.old) (K.faults sink.new) }
+{
+    match path {
+        [] => sink.write(b"\n"),
+        _ => match write_both(b" ", path, sink) {
+            Put::All => sink.write(b"\n"),
+            Put::Failed => Put::Failed,
+        },
+    }
+}
+
+// Appends these bytes, and then those.
+fn write_both<K: Sink>(first: &[u8], second: &[u8], sink: &mut K) -> Put
+    ensures bytes { Puts result (K.taken sink.old) (K.taken sink.new) (first.now ++ second.now) }
+    ensures count { K.faults sink.old ≤ K.faults sink.new }
+    ensures failed { result ≡ put.Failed → Rose (K.faults sink.old) (K.faults sink.new) }
+{
+    match sink.write(first) {
+        Put::All => sink.write(second),
+        Put::Failed => Put::Failed,
+    }
+}
+
+// Appends the line that says which line of a log breaks what.
+#[tactic(auto, unfolding(crate::specs::Status::status_text))]
+fn breach_text<K: Sink>(line: u64, clause: Clause, sink: &mut K) -> Put
+    ensures bytes { Puts result (K.taken sink.old) (K.taken sink.new) (status_text (Status.Breach line clause)) }
+    ensures count { K.faults sink.old ≤ K.faults sink.new }
+    ensures failed { result ≡ put.Failed → Rose (K.faults sink.old) (K.faults sink.new) }
+{
+    let mut text = LineText::new();
+    text.word(clause_word(clause));
+    text.word(b" breaks ");
+    text.number(line);
+    text.word(b"silkroad: audit: line ");
+    sink.write(text.bytes())
+}
+
+// The word for a clause.
+fn clause_word(clause: Clause) -> &'static [u8]
+    ensures word { result.now ≡ clause_word clause }
+    ensures length { length result.now ≤ 6 }
+{
+    match clause {
+        Clause::Text => b"text",
+        Clause::Order => b"order",
+        Clause::Server => b"server",
+        Clause::Same => b"same",
+        Clause::Newer => b"newer",
+        Clause::Number => b"number",
+        Clause::Cause => b"cause",
+        Clause::Retire => b"retire",
+        Clause::Final => b"final",
     }
 }
 

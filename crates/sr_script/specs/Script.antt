@@ -29,11 +29,18 @@ pub record IsTree (bytes : List ℕ) (t : Members) : Type 0 where
 abbrev pub not_toml : Fault
 not_toml = record { why = NotToml; path = [] }
 
--- a script is what the text's tree spells; a refusal is the first fault of its tree, or says that it has none
+-- the text's tree spells this script
+abbrev pub IsScriptText : List ℕ → Spelled → Type 0
+IsScriptText bytes s = (t : Members) × IsTree bytes t × (script_in t ≡ Ok s)
+
+-- the text's tree has this first fault, or the text has no tree
+abbrev pub HasFault : List ℕ → Fault → Type 0
+HasFault bytes fault = ((t : Members) × IsTree bytes t × (script_in t ≡ Err fault)) ⊎ (((t : Members) → ¬ (IsTree bytes t)) × (fault ≡ not_toml))
+
+-- a script is what the text's tree spells; a refusal is its first fault
 abbrev pub Parses : List ℕ → Result script ParseRefusal → Type 0
-Parses bytes (Ok s) = (t : Members) × IsTree bytes t × (script_in t ≡ Ok (spelled s))
-Parses bytes (Err (Script r)) =
-    ((t : Members) × IsTree bytes t × (script_in t ≡ Err (fault_of r))) ⊎ (((t : Members) → ¬ (IsTree bytes t)) × (fault_of r ≡ not_toml))
+Parses bytes (Ok s) = IsScriptText bytes (spelled s)
+Parses bytes (Err (Script r)) = HasFault bytes (fault_of r)
 Parses bytes (Err Memory) = Unit {0}
 
 -- a script is one that the text's tree spells

@@ -6,7 +6,7 @@ use std::alloc::AllocFailed;
 use thiserror::Error;
 
 /// Why and where a text is no script: the first fault of a walk through it.
-#[derive(Debug, Drop, Error)]
+#[derive(Debug, Drop, PartialEq, Eq, Error)]
 #[error("{why}: `{path}`")]
 pub struct ScriptRefusal {
     /// Why.

@@ -9,7 +9,7 @@ use Rattle.sr_base.specs.declared.shape.Shape.{Shape}
 use Rattle.sr_hash.specs.Clash.{clashes}
 use Rattle.sr_shadow.specs.Book.{Book, entry_for, is_registered, with_changed, holder_of, count_of, DistinctKeys, IsBook}
 use Rattle.sr_shadow.specs.Counts.{cell_of, Counted}
-use Rattle.sr_shadow.specs.Entry.{has_version, holds, is_outside, settled, left_other}
+use Rattle.sr_shadow.specs.Entry.{has_version, holds, is_outside, stands_in, settled, left_other}
 use Rattle.sr_shadow.specs.Holders.{HeldBy}
 use Rattle.sr_shadow.specs.Numbers.{Numbered}
 use Rattle.sr_shadow.specs.Rivals.{is_member, is_outsider, Tallied, FewTallied}
@@ -54,6 +54,7 @@ pub shadow_same : (l : LayoutView) (front back : List Entry) (e f : Entry) (take
     → IsShadow l (front ++ e ∷ back) taken numbers counts one two table → IsShadow l (front ++ f ∷ back) taken numbers counts one two table
 shadow_same l front back e f taken numbers counts one two table own version at also told h =
     let out : is_outside f ≡ is_outside e = rw at refl in
+    let stands : (way : ℕ) → stands_in way f ≡ stands_in way e = λ way. rw at refl in
     record {
       book = record {
         distinct = distinct_swap front back e f own h.book.distinct;
@@ -64,8 +65,8 @@ shadow_same l front back e f taken numbers counts one two table own version at a
       };
       numbered = numbered_same numbers front back e f own told h.numbered;
       counted = counted_same counts front back e f own version h.counted;
-      first = tallied_same l.shape 1 one front back e f own out h.first;
-      second = tallied_same l.shape 2 two front back e f own out h.second;
+      first = tallied_same l.shape 1 one front back e f own out (stands 1) h.first;
+      second = tallied_same l.shape 2 two front back e f own out (stands 2) h.second;
       held = held_alike l.shape table (front ++ e ∷ back) (front ++ f ∷ back) (λ place. holder_same place front back e f own at also) h.held;
     }
 
@@ -103,8 +104,8 @@ shadow_left l front back e taken numbers counts one two table table2 held h = re
   };
   numbered = numbered_same numbers front back e (left_other e) refl refl h.numbered;
   counted = counted_same counts front back e (left_other e) refl refl h.counted;
-  first = tallied_same l.shape 1 one front back e (left_other e) refl refl h.first;
-  second = tallied_same l.shape 2 two front back e (left_other e) refl refl h.second;
+  first = tallied_same l.shape 1 one front back e (left_other e) refl refl refl h.first;
+  second = tallied_same l.shape 2 two front back e (left_other e) refl refl refl h.second;
   held = held;
 }
 

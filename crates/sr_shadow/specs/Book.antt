@@ -6,7 +6,7 @@ use Rattle.sr_base.specs.Layout.{LayoutView}
 use Rattle.sr_base.specs.declared.place.Place.{Place}
 use Rattle.sr_base.specs.declared.shape.Shape.{Shape}
 use Rattle.sr_hash.specs.Clash.{clashes}
-use Rattle.sr_shadow.specs.Entry.{is_of, is_pending, is_placed, is_outside, holds, times_held, has_version, fresh, closed, settled, left_other, swept}
+use Rattle.sr_shadow.specs.Entry.{is_of, is_pending, is_placed, is_outside, holds, times_held, has_version, stands_in, fresh, closed, settled, left_other, swept}
 use Rattle.sr_shadow.specs.declared.entry.Entry.{Entry}
 
 -- The book: the layout that it was made of, the entries in the order of taking, how many were ever taken, and the key, if any, for whose entry
@@ -47,6 +47,14 @@ is_rival shape way key e = is_outside e && (not (is_of key e) && clashes shape w
 -- some other registered key outside the full-key table clashes with the key in this way
 abbrev pub is_clashing : Shape → ℕ → KeyView → List Entry → Bool
 is_clashing shape way key entries = list_any (is_rival shape way key) entries
+
+-- the entry stands in a slot of this way, in which its key clashes with this one: there packets of the one are taken for the other's
+abbrev pub is_stander : Shape → ℕ → KeyView → Entry → Bool
+is_stander shape way key e = stands_in way e && clashes shape way key e.key
+
+-- how many do, the key's own entry counted
+abbrev pub standing_of : Shape → ℕ → KeyView → List Entry → ℕ
+standing_of shape way key entries = count_by (is_stander shape way key) entries
 
 -- the entries, with the key's changed
 abbrev pub with_changed : (Entry → Entry) → KeyView → List Entry → List Entry

@@ -43,6 +43,16 @@ is_placed e = is_some e.place
 abbrev pub is_outside : Entry → Bool
 is_outside e = not (is_row e.place)
 
+-- the place, if there is one, is a slot of this way
+abbrev pub is_slot_in : ℕ → Option Place → Bool
+is_slot_in way None = false
+is_slot_in way (Some (Slot at bucket cell)) = at == way
+is_slot_in way (Some (Row row)) = false
+
+-- the key's Live place is a slot of this way
+abbrev pub stands_in : ℕ → Entry → Bool
+stands_in way e = is_slot_in way e.place
+
 -- the entry has this place, as the Live one or as the one that it is about to leave
 abbrev pub holds : Place → Entry → Bool
 holds place e = is_at place e.place || is_at place e.also

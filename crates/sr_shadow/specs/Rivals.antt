@@ -1,9 +1,11 @@
--- Of one way, how many registered keys are in each class of keys that clash, and how many of them are outside the full-key table.
+-- Of one way, how many registered keys are in each class of keys that clash, how many of them are outside the full-key table, and how many
+-- stand in a slot of the way.
 use Rattle.std.specs.Prelude.{◌≡◌, ℕ, ◌+◌, ◌*◌, ◌≤◌, ◌<◌, ◌^◌, Bool, ◌&&◌, List, ◌∷◌, ◌++◌, length, Option, Some, None, cond, unwrap_or, count_by}
 use Rattle.sr_base.specs.Key.{KeyView}
 use Rattle.sr_base.specs.declared.shape.Shape.{Shape}
 use Rattle.sr_hash.specs.Clash.{clashes}
 use Rattle.sr_hash.specs.Uses.{bucket_of, digest_of}
+use Rattle.sr_shadow.specs.Book.{standing_of}
 use Rattle.sr_shadow.specs.Entry.{is_outside}
 use Rattle.sr_shadow.specs.declared.entry.Entry.{Entry}
 use Rattle.sr_shadow.specs.declared.tally.Tally.{Tally}
@@ -20,7 +22,7 @@ abbrev pub is_outsider : Shape → ℕ → KeyView → Entry → Bool
 is_outsider shape way key e = is_outside e && clashes shape way key e.key
 
 abbrev pub no_tally : Tally
-no_tally = record { members = 0; outside = 0 }
+no_tally = record { members = 0; outside = 0; standing = 0 }
 
 -- the numbers of a class
 abbrev pub tally_of : (ℕ → Option Tally) → ℕ → Tally
@@ -30,6 +32,7 @@ tally_of tallies class = unwrap_or (tallies class) no_tally
 pub record Tallied (shape : Shape) (way : ℕ) (tallies : ℕ → Option Tally) (es : List Entry) : Type 0 where
   pub members : (key : KeyView) → (tally_of tallies (class_of shape way key)).members ≡ count_by (is_member shape way key) es
   pub outside : (key : KeyView) → (tally_of tallies (class_of shape way key)).outside ≡ count_by (is_outsider shape way key) es
+  pub standing : (key : KeyView) → (tally_of tallies (class_of shape way key)).standing ≡ standing_of shape way key es
 
 -- what a class needs to be a number of its own
 abbrev pub IsClassed : Shape → Type 0

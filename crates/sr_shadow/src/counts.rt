@@ -37,7 +37,7 @@ impl Counts {
     // How many have these.
     pub(crate) fn count(&self, vip: u8, version: Version) -> u64
         requires { vip < 16 }
-        ensures { result ≡ slice_index_or self.now (cell_of vip version) 0 }
+        ensures { (es : List AnEntry) → Counted self.now es → result ≡ count_of vip version es }
     {
         self.table[vip as usize * 64 + version.number() as usize]
     }

@@ -1,5 +1,5 @@
 ghost use Rattle.std.specs.Prelude.{◌≡◌, cond};
-ghost use Rattle.sr_shadow.specs.Entry.{holds, is_at, is_outside, quiet_after, same_place};
+ghost use Rattle.sr_shadow.specs.Entry.{holds, is_at, is_outside, quiet_after, same_place, stands_in};
 
 use sr_base::{Key, Place, Version};
 
@@ -64,6 +64,16 @@ pub(crate) fn outside(entry: &Entry) -> u64
     match entry.place {
         Some(Place::Row { .. }) => 0,
         _ => 1,
+    }
+}
+
+// 1 for an entry whose Live place is a slot of this way, else 0.
+pub(crate) fn standing(way: u8, entry: &Entry) -> u64
+    ensures { result ≡ cond (stands_in way entry.now) 1 0 }
+{
+    match entry.place {
+        Some(Place::Slot { way: at, .. }) => { if at == way { 1 } else { 0 } }
+        _ => 0,
     }
 }
 

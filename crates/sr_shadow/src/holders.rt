@@ -64,7 +64,7 @@ impl Holders {
     {
         self.leave(layout, entry);
         match entry.place {
-            Some(place) => self.put(layout, place, None),
+            Some(own) => self.put(layout, own, None),
             None => {}
         }
     }

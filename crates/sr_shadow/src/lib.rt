@@ -26,3 +26,6 @@ pub use entry::Entry;
 pub use plan::Plan;
 pub use shadow::{Shadow, book_rules};
 pub use took::Took;
+
+#[cfg(test)]
+mod tests;

@@ -6,7 +6,7 @@ ghost use Rattle.sr_shadow.specs.Rivals.{class_of, tally_of, FewTallied, HasTall
 ghost use Rattle.sr_shadow.specs.declared.entry.Entry.{Entry as AnEntry};
 
 use crate::Entry;
-use crate::entry::outside;
+use crate::entry::{outside, standing};
 use crate::tally::Tally;
 use indexmap::IndexMap;
 use sr_base::{Key, Layout, Place, layout_ranges};
@@ -46,6 +46,14 @@ impl Rivals {
         self.tally(class(layout, way, key)).outside
     }
 
+    // How many entries that stand in a slot of the way clash with the key in it, its own counted.
+    pub(crate) fn standing(&self, layout: &Layout, way: u8, key: Key) -> u64
+        requires { (1 ≤ way) × (way ≤ 2) }
+        ensures { result ≡ (tally_of (get nat_eq self.now.map) (class_of layout.now.shape way key)).standing }
+    {
+        self.tally(class(layout, way, key)).standing
+    }
+
     // One entry more.
     pub(crate) fn join(&mut self, layout: &Layout, way: u8, entry: &Entry)
         requires way { (1 ≤ way) × (way ≤ 2) }
@@ -58,6 +66,7 @@ impl Rivals {
         let more = Tally {
             members: tally.members + 1,
             outside: tally.outside + outside(entry),
+            standing: tally.standing + standing(way, entry),
         };
         match self.map.insert(class, more) {
             Ok(_) => {}
@@ -77,6 +86,7 @@ impl Rivals {
         let less = Tally {
             members: tally.members - 1,
             outside: tally.outside - outside(entry),
+            standing: tally.standing - standing(way, entry),
         };
         self.put(class, less);
     }
@@ -90,7 +100,7 @@ impl Rivals {
         ensures swapped { (front back : List AnEntry) → Tallied layout.now.shape way (get nat_eq self.old.map) (front ++ old.now ∷ back) → Tallied layout.now.shape way (get nat_eq self.new.map) (front ++ new.now ∷ back) }
         ensures room { spare self.old.map ≤ spare self.new.map }
     {
-        if outside(old) == outside(new) {
+        if outside(old) == outside(new) && standing(way, old) == standing(way, new) {
             return;
         }
         let class = class(layout, way, old.key);
@@ -98,6 +108,7 @@ impl Rivals {
         let other = Tally {
             members: tally.members,
             outside: tally.outside + outside(new) - outside(old),
+            standing: tally.standing + standing(way, new) - standing(way, old),
         };
         self.put(class, other);
     }
@@ -111,6 +122,7 @@ impl Rivals {
             None => Tally {
                 members: 0,
                 outside: 0,
+                standing: 0,
             },
         }
     }
@@ -121,7 +133,7 @@ impl Rivals {
         ensures changed { (q : ℕ) → tally_of (get nat_eq self.new.map) q ≡ cond (nat_eq class q) tally (tally_of (get nat_eq self.old.map) q) }
         ensures room { spare self.old.map ≤ spare self.new.map }
     {
-        if tally.members == 0 && tally.outside == 0 {
+        if tally.members == 0 && tally.outside == 0 && tally.standing == 0 {
             self.map.swap_remove(&class);
         } else if let Some(held) = self.map.get_mut(&class) {
             *held = tally;

@@ -1,5 +1,5 @@
 ghost use Rattle.std.specs.Prelude.{◌≡◌, ◌≢◌, ◌+◌, ◌^◌, ◌<◌, ◌≤◌, ◌∷◌, ◌++◌, List, length, slice_get, find, count_by, true, false, is_some, option_copied, option_to_list, Option, Some, None, IsOk, IfOk, OnOk, OnErr};
-ghost use Rattle.sr_shadow.specs.Book.{entry_for, is_registered, pending_from, placed_from, holder_of, count_of, is_clashing, opened, reserved_for, with_changed, with_new, with_closed, with_settled, with_left, with_swept, with_retired, CanSettle, CanLeave, CanSweep, DistinctKeys, IsBook};
+ghost use Rattle.sr_shadow.specs.Book.{entry_for, is_registered, pending_from, placed_from, holder_of, count_of, is_clashing, standing_of, opened, reserved_for, with_changed, with_new, with_closed, with_settled, with_left, with_swept, with_retired, CanSettle, CanLeave, CanSweep, DistinctKeys, IsBook};
 ghost use Rattle.sr_shadow.specs.Entry.{holds, is_at, quiet_after, same_place};
 ghost use Rattle.sr_shadow.specs.Rivals.{is_outsider, own_outside};
 ghost use Rattle.sr_shadow.specs.Shadow.{CanNote};
@@ -114,7 +114,6 @@ impl Shadow {
     pub fn count(&self, vip: u8, version: Version) -> u64
         ensures { result ≡ count_of vip version self.now.entries }
     {
-        let bits = version.number();
         if vip < 16 {
             self.counts.count(vip, version)
         } else {
@@ -140,6 +139,18 @@ impl Shadow {
     {
         let own = outside_by_one(self.get(key));
         self.outsiders(way, key) > own
+    }
+
+    /// How many entries stand in a slot of this way, 1 or 2, and clash with the key in it, its own counted: the key's packets are taken for theirs.
+    pub fn standing(&self, way: u8, key: Key) -> u64
+        requires { (1 ≤ way) × (way ≤ 2) }
+        ensures { result ≡ standing_of self.now.layout.shape way key self.now.entries }
+    {
+        if way == 1 {
+            self.first.standing(&self.layout, 1, key)
+        } else {
+            self.second.standing(&self.layout, 2, key)
+        }
     }
 
     /// Makes room for an entry of this key, so that the next `take` of it needs no memory. One key at a time has such room.

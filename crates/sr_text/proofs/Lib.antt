@@ -1,0 +1,8 @@
+pub mod Decimals
+pub mod FieldTexts
+pub mod Growing
+pub mod Lengths
+pub mod LineTexts
+pub mod Logs
+pub mod Windows
+pub mod Words

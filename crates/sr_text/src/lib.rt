@@ -1,16 +1,34 @@
-//! The printed text of a log: a head, the skipped records, and the lines of pipes and controller, one line of text each. A line is put
-//! together in a buffer on the stack and goes to the sink in one write.
+//! The printed text of a log: a head, the skipped records, and the lines of pipes and controller, one line of text each.
+//!
+//! Printing: a line is put together in a buffer on the stack and goes to the sink in one write.
+//!
+//! Reading: the source's bytes come through a window of 256 KiB, and each line is read where it lies, field by field, its line feed last. The
+//! readers of fields are equal to functions on lists (`specs/Fronts.antt`), of which two laws are proved for each field: what is printed is
+//! read, and what is read is what is printed. The contract of `read_lines` speaks of the printed text alone (`specs/Log.antt`).
 #![tactic(auto)]
 
+mod adding;
+mod field_fronts;
 mod fields;
+mod laws;
+mod line_at;
+mod line_fronts;
 mod line_text;
 mod log;
 mod log_refusal;
+mod name;
+mod numbers;
 mod printing;
 mod put;
 mod reading;
+mod refill;
+#[cfg(test)]
+mod tests;
+mod window;
+mod word;
 
 pub use fields::put_key;
+pub use laws::{line_ranges, log_ranges};
 pub use line_text::LineText;
 pub use log::Log;
 pub use log_refusal::LogRefusal;

@@ -1,5 +1,5 @@
-use Rattle.std.proofs.Common.{◌+◌, ◌<◌, length, arith}
-use Rattle.sr_marks.proofs.Walks.{level-read, levels-under, summing-le, summing_even, summing_odd, summing_all, summing_none}
+use Rattle.std.proofs.Common.{arith}
+use Rattle.sr_marks.proofs.Walks.{level-read, levels-under, summing-le, summing_even, summing_odd, summing_all}
 use Rattle.sr_marks.proofs.counts.Counts.before.Goals as goal
 use Rattle.sr_marks.proofs.counts.Counts.before.Goals.{then-at-eq1, else-at-eq1}
 

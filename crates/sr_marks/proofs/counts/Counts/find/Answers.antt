@@ -1,4 +1,4 @@
-use Rattle.std.proofs.Common.{◌≡◌, ◌+◌, ◌-◌, ◌*◌, ◌<◌, ◌≤◌, length, get_or, ap, sym, refl, subst, ◌∙◌, arith, rules}
+use Rattle.std.proofs.Common.{◌≡◌, ◌+◌, ◌-◌, refl, subst, arith, rules}
 use Rattle.sr_marks.proofs.Walks.{Finding, level-read, levels-under, finding_none, finding-within, finding_left, finding_right, finding_all}
 use Rattle.sr_marks.proofs.counts.Counts.find.Goals as goal
 

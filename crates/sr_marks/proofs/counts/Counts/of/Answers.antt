@@ -1,4 +1,4 @@
-use Rattle.std.proofs.Common.{◌≡◌, ◌-◌, length, ap, ◌∙◌, arith}
+use Rattle.std.proofs.Common.{◌-◌, length, ap, ◌∙◌, arith}
 use Rattle.sr_marks.specs.Counts.{total}
 use Rattle.sr_marks.proofs.SetMarks.{count_set-le}
 use Rattle.sr_marks.proofs.Weighing.{total-weights}

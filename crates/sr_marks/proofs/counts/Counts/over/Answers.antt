@@ -1,4 +1,4 @@
-use Rattle.std.proofs.Common.{◌≡◌, length, ap, arith}
+use Rattle.std.proofs.Common.{length, ap, arith}
 use Rattle.sr_marks.specs.Counts.{total}
 use Rattle.sr_marks.proofs.Pairing.{length-pairs}
 use Rattle.sr_marks.proofs.Levels.{total-level}

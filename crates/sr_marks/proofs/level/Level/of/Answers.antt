@@ -1,4 +1,4 @@
-use Rattle.std.proofs.Common.{arith, rules}
+use Rattle.std.proofs.Common.{rules}
 use Rattle.sr_marks.proofs.Weighing.{weights_more, weights_all}
 use Rattle.sr_marks.proofs.level.Level.of.Goals as goal
 

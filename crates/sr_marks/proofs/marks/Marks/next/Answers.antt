@@ -1,4 +1,4 @@
-use Rattle.std.proofs.Common.{◌≡◌, ap, sym, ◌∙◌}
+use Rattle.std.proofs.Common.{ap, sym, ◌∙◌}
 use Rattle.sr_marks.specs.Marks.{nth_set}
 use Rattle.sr_marks.proofs.SetMarks.{next_set-is_nth}
 use Rattle.sr_marks.proofs.marks.Marks.next.Goals as goal

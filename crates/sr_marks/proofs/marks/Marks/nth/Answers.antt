@@ -1,4 +1,4 @@
-use Rattle.std.proofs.Common.{◌≡◌, ◌<◌, length, Some, None, ap, sym, ◌∙◌, arith}
+use Rattle.std.proofs.Common.{ap, sym, ◌∙◌, arith}
 use Rattle.sr_marks.specs.Marks.{nth_set}
 use Rattle.sr_marks.proofs.SetMarks.{count_set-le, nth_set-is, nth_set-none}
 use Rattle.sr_marks.proofs.Counting.{counted-total, counted-nth}

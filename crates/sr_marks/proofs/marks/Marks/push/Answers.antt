@@ -1,6 +1,5 @@
-use Rattle.std.proofs.Common.{◌≡◌, ℕ, ◌+◌, ◌<◌, ◌++◌, ◌∷◌, [], List, length, get_or, set, ap, subst, ◌∙◌, arith}
+use Rattle.std.proofs.Common.{◌≡◌, ◌+◌, ◌++◌, ◌∷◌, [], length, get_or, set, ap, ◌∙◌, arith}
 use Rattle.sr_marks.proofs.SetMarks.{count_set-le}
-use Rattle.sr_marks.specs.Marks.{AreCounted}
 use Rattle.sr_marks.proofs.Counting.{counted-total, counted_push, counted_push_set}
 use Rattle.sr_marks.proofs.marks.Marks.push.Goals as goal
 

@@ -1,4 +1,4 @@
-use Rattle.std.proofs.Common.{◌≡◌, ℕ, ◌-◌, ◌<◌, ◌≤◌, length, ap, sym, ◌∙◌, arith}
+use Rattle.std.proofs.Common.{◌-◌, length, ap, sym, ◌∙◌, arith}
 use Rattle.sr_marks.specs.Counts.{weights}
 use Rattle.sr_marks.specs.Marks.{count_set}
 use Rattle.sr_marks.proofs.Weighing.{length-weights}

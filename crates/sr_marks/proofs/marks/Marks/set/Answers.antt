@@ -1,4 +1,4 @@
-use Rattle.std.proofs.Common.{◌≡◌, ℕ, ◌+◌, ◌<◌, Bool, true, false, length, get_or, set, ap, sym, refl, ◌∙◌, arith}
+use Rattle.std.proofs.Common.{◌≡◌, false, length, get_or, set, ap, sym, ◌∙◌, arith}
 use Rattle.std.proofs.lemmas.List.{get_or_read}
 use Rattle.sr_marks.specs.Counts.{weight}
 use Rattle.sr_marks.proofs.Counting.{counted-total, counted-get, counted_some, counted_more, counted_set, counted_unset, unlike_set, unlike_unset}

@@ -6,7 +6,7 @@ use Rattle.sr_shadow.proofs.holders.Holders.free.Goals as goal
 
 pub returns-in-Some : goal.returns-in-Some
 returns-in-Some c = λ front back once h.
-    c.put.ensures.held _ _ (λ other. holder_gone c.in-Some.place front back (left_other c.args.entry.now) (once_left front back c.args.entry.now once) refl c.in-Some.is other) (c.leave.ensures.left front back once h)
+    c.put.ensures.held _ _ (λ other. holder_gone c.in-Some.own front back (left_other c.args.entry.now) (once_left front back c.args.entry.now once) refl c.in-Some.is other) (c.leave.ensures.left front back once h)
 
 pub returns-in-None : goal.returns-in-None
 returns-in-None c = λ front back once h.

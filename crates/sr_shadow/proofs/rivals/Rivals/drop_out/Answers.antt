@@ -8,4 +8,5 @@ returns-clause-less c = λ front back h.
     let one = tallied_one c.args.layout.now.shape c.args.way (get nat_eq c.args.self.now.map) c.args.entry.now c.requires.has in
     tallied_less c.args.layout.now.shape c.args.way c.class-class.result _ _ _ front back c.args.entry.now c.class-class.ensures.classed c.class-class.ensures.value
     (λ q. c.put.ensures.changed q) (grind (arith, one.0, c.class-class.ensures.value, c.tally-tally.ensures))
-    (grind (arith, one.1, c.class-class.ensures.value, c.tally-tally.ensures, c.outside.ensures)) h
+    (grind (arith, one.1, c.class-class.ensures.value, c.tally-tally.ensures, c.outside.ensures))
+    (grind (arith, one.2, c.class-class.ensures.value, c.tally-tally.ensures, c.standing.ensures)) h

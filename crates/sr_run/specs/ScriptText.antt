@@ -1,0 +1,42 @@
+-- The script that a name of the shelf has.
+use Rattle.std.specs.Prelude.{◌≡◌, ◌⊎◌, ◌<◌, ◌≤◌, ℕ, List, [], length, Option, Some, None}
+use Rattle.sr_script.specs.declared.why.Why.TheVariants.{TextTooLong}
+use Rattle.sr_script.specs.Fault.{Fault, fault_of}
+use Rattle.sr_script.specs.Fitting.{IsFitting}
+use Rattle.sr_script.specs.Script.{spelled, IsScriptText, HasFault}
+use Rattle.sr_script.specs.Walk.{Spelled}
+use Rattle.sr_run.specs.declared.script_text.Fetched.{Fetched}
+use Rattle.sr_run.specs.declared.script_text.Fetched.TheVariants.{Script, Refused, ReadFault, Memory}
+
+-- how many bytes a script has at most
+abbrev pub most_script_bytes : ℕ
+most_script_bytes = 1048576
+
+-- the fault of a text that is longer
+abbrev pub too_long : Fault
+too_long = record { why = TextTooLong; path = [] }
+
+-- the name has a text, and it is this script
+abbrev pub IsScript : Option (List ℕ) → Spelled → Type 0
+IsScript None s = ⊥
+IsScript (Some text) s = (length text ≤ most_script_bytes) × IsScriptText text s
+
+-- the name has a text, and it is too long, or this is its first fault
+abbrev pub IsNoScript : Option (List ℕ) → Fault → Type 0
+IsNoScript None fault = ⊥
+IsNoScript (Some text) fault =
+    ((most_script_bytes < length text) × (fault ≡ too_long)) ⊎ ((length text ≤ most_script_bytes) × HasFault text fault)
+
+-- what fetching a name says of its text; want of memory and a fault of the shelf may come of every name
+abbrev pub Fetches : Fetched → Option (List ℕ) → Type 0
+Fetches (Script s) text = IsScript text (spelled s)
+Fetches (Refused r) text = IsNoScript text (fault_of r)
+Fetches ReadFault text = Unit {0}
+Fetches Memory text = Unit {0}
+
+-- a script fits a layout
+abbrev pub IsReady : Fetched → Type 0
+IsReady (Script s) = IsFitting (spelled s)
+IsReady (Refused r) = Unit {0}
+IsReady ReadFault = Unit {0}
+IsReady Memory = Unit {0}

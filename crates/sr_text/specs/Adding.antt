@@ -1,0 +1,98 @@
+-- How a log grows line by line.
+use Rattle.std.specs.Prelude.{◌≡◌, ◌≢◌, ℕ, ◌+◌, ◌≤◌, List, [], ◌∷◌, ◌++◌, Option, Some, Result, Ok, Err}
+use Rattle.sr_frame.specs.declared.skip.Skip.{Skip}
+use Rattle.sr_law.specs.declared.line.Line.{Line}
+use Rattle.sr_text.specs.LineText.{head_text, log_text}
+use Rattle.sr_text.specs.Log.{IsLog, GoesOn, IsFirstBad, line_count}
+use Rattle.sr_text.specs.Window.{Pending, WindowView}
+use Rattle.sr_text.specs.declared.adding.Added.{Added}
+use Rattle.sr_text.specs.declared.adding.Added.TheVariants as added
+use Rattle.sr_text.specs.declared.reading.Step.{Step}
+use Rattle.sr_text.specs.declared.reading.Step.TheVariants as step
+use Rattle.sr_text.specs.declared.log_refusal.LogRefusal.{LogRefusal}
+use Rattle.sr_text.specs.declared.log_refusal.LogRefusal.TheVariants.{BadLine, ReadFault, Memory}
+
+-- the line of one value was used, and the value is the list's last now
+pub record Takes {A : Type 0} (text : A → List ℕ) (fits : A → Type 0) (old new : WindowView) (xs ys : List A) : Type 0 where
+  pub one : A
+  pub within : fits one
+  pub used : old.unread ≡ text one ++ new.unread
+  pub over : new.over ≡ old.over
+  pub list : ys ≡ xs ++ one ∷ []
+
+-- A line was added; or none of the kind is next, and all is as it was.
+abbrev pub AddsTo : {A : Type 0} → (A → List ℕ) → (A → Type 0) → (List ℕ → Type 0) → Added → WindowView → WindowView → List A → List A → Type 0
+AddsTo text fits next added.Line old new xs ys = Takes text fits old new xs ys
+AddsTo text fits next added.Nothing old new xs ys = (¬ (next old.unread)) × (new ≡ old) × (ys ≡ xs)
+AddsTo text fits next added.Memory old new xs ys = Unit {0}
+
+-- the same of a log's two lists
+pub record TakesOne (old new : WindowView) (ss : List (ℕ × Skip)) (ls : List Line) (ts : List (ℕ × Skip)) (ms : List Line) : Type 0 where
+  pub text : List ℕ
+  pub used : old.unread ≡ text ++ new.unread
+  pub over : new.over ≡ old.over
+  pub more : log_text ts ms ≡ log_text ss ls ++ text
+  pub numbers : IsLog ss ls → IsLog ts ms
+  pub count : line_count ts ms ≡ 1 + line_count ss ls
+
+abbrev pub Adds : Added → WindowView → WindowView → List (ℕ × Skip) → List Line → List (ℕ × Skip) → List Line → Type 0
+Adds added.Line old new ss ls ts ms = TakesOne old new ss ls ts ms
+Adds added.Nothing old new ss ls ts ms = (¬ (GoesOn ls old.unread)) × (new ≡ old) × (ts ≡ ss) × (ms ≡ ls)
+Adds added.Memory old new ss ls ts ms = Unit {0}
+
+-- a text that begins with that of these lists, up to which it was read
+pub record Reached (ss : List (ℕ × Skip)) (ls : List Line) (w : WindowView) (left : Option (List ℕ)) (bytes : List ℕ) : Type 0 where
+  pub rest : List ℕ
+  pub text : bytes ≡ log_text ss ls ++ rest
+  pub pending : Pending w left rest
+
+-- bytes come next that don't begin with a line of the grammar
+pub record Strays (ss : List (ℕ × Skip)) (ls : List Line) (bytes : List ℕ) : Type 0 where
+  pub rest : List ℕ
+  pub text : bytes ≡ log_text ss ls ++ rest
+  pub more : rest ≢ []
+  pub outside : ¬ (GoesOn ls rest)
+
+-- what was found after these lines
+abbrev pub Finds : Step → List (ℕ × Skip) → List Line → WindowView → Option (List ℕ) → List ℕ → Type 0
+Finds step.More ss ls w left bytes = Reached ss ls w left bytes
+Finds step.End ss ls w left bytes = (bytes ≡ log_text ss ls) × (left ≡ Some [])
+Finds step.Bad ss ls w left bytes = Strays ss ls bytes
+Finds step.Failed ss ls w left bytes = Unit {0}
+Finds step.Memory ss ls w left bytes = Unit {0}
+
+-- by a line, or not at all
+abbrev pub Grows : Step → List (ℕ × Skip) → List Line → List (ℕ × Skip) → List Line → Type 0
+Grows step.More ss ls ts ms = (IsLog ss ls → IsLog ts ms) × (line_count ts ms ≡ 1 + line_count ss ls)
+Grows step.End ss ls ts ms = (ts ≡ ss) × (ms ≡ ls)
+Grows step.Bad ss ls ts ms = (ts ≡ ss) × (ms ≡ ls)
+Grows step.Failed ss ls ts ms = Unit {0}
+Grows step.Memory ss ls ts ms = Unit {0}
+
+-- the head was read; or it isn't there
+abbrev pub Heads : Result (Unit {0}) LogRefusal → WindowView → Option (List ℕ) → List ℕ → Type 0
+Heads (Ok done) w left bytes = (rest : List ℕ) × ((bytes ≡ head_text ++ rest) × Pending w left rest)
+Heads (Err (BadLine number)) w left bytes = (number ≡ 1) × ((rest : List ℕ) → bytes ≢ head_text ++ rest)
+Heads (Err ReadFault) w left bytes = Unit {0}
+Heads (Err Memory) w left bytes = Unit {0}
+
+-- all lines after the head were read; or a bad one was found
+abbrev pub Bodies : Result (Unit {0}) LogRefusal → List (ℕ × Skip) → List Line → Option (List ℕ) → List ℕ → Type 0
+Bodies (Ok done) ss ls left bytes = (bytes ≡ log_text ss ls) × (left ≡ Some [])
+Bodies (Err (BadLine number)) ss ls left bytes = IsFirstBad number bytes
+Bodies (Err ReadFault) ss ls left bytes = Unit {0}
+Bodies (Err Memory) ss ls left bytes = Unit {0}
+
+-- what any source allows
+abbrev pub IsBody : Result (Unit {0}) LogRefusal → List (ℕ × Skip) → List Line → Type 0
+IsBody (Ok done) ss ls = IsLog ss ls × (line_count ss ls ≤ 33554432)
+IsBody (Err (BadLine number)) ss ls = (1 ≤ number) × (number ≤ 33554433)
+IsBody (Err ReadFault) ss ls = Unit {0}
+IsBody (Err Memory) ss ls = Unit {0}
+
+-- what any source allows of the head
+abbrev pub IsHead : Result (Unit {0}) LogRefusal → Type 0
+IsHead (Ok done) = Unit {0}
+IsHead (Err (BadLine number)) = number ≡ 1
+IsHead (Err ReadFault) = Unit {0}
+IsHead (Err Memory) = ⊥

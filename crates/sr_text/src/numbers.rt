@@ -1,0 +1,94 @@
+//! Numbers at the front of bytes: decimal, without leading zeros, each with the one byte that ends it.
+ghost use Rattle.std.specs.Prelude.{◌≡◌, ◌≤◌, ◌<◌, option_map, IfSome};
+ghost use Rattle.sr_text.specs.Fronts.{digits_on, field_front, number_front};
+
+use crate::word::after_word;
+use sr_base::Version;
+
+/// A number that 8 bits hold, and what follows the byte behind it.
+pub(crate) fn small(ending: u8, bytes: &[u8]) -> Option<(u8, &[u8])>
+    ensures { option_map (λ x. (x.0, x.1.now)) result ≡ field_front 255 ending bytes.now }
+{
+    let (n, rest) = field(255, ending, bytes)?;
+    Some((n as u8, rest))
+}
+
+/// The same of 16 bits.
+pub(crate) fn port(ending: u8, bytes: &[u8]) -> Option<(u16, &[u8])>
+    ensures { option_map (λ x. (x.0, x.1.now)) result ≡ field_front 65535 ending bytes.now }
+{
+    let (n, rest) = field(65_535, ending, bytes)?;
+    Some((n as u16, rest))
+}
+
+/// The same of 32 bits.
+pub(crate) fn middle(ending: u8, bytes: &[u8]) -> Option<(u32, &[u8])>
+    ensures { option_map (λ x. (x.0, x.1.now)) result ≡ field_front 4294967295 ending bytes.now }
+{
+    let (n, rest) = field(4_294_967_295, ending, bytes)?;
+    Some((n as u32, rest))
+}
+
+/// The same of 64 bits.
+pub(crate) fn large(ending: u8, bytes: &[u8]) -> Option<(u64, &[u8])>
+    ensures { option_map (λ x. (x.0, x.1.now)) result ≡ field_front 18446744073709551615 ending bytes.now }
+{
+    field(18_446_744_073_709_551_615, ending, bytes)
+}
+
+/// A version, and what follows the byte behind it.
+pub(crate) fn version(ending: u8, bytes: &[u8]) -> Option<(Version, &[u8])>
+    ensures { option_map (λ x. (x.0, x.1.now)) result ≡ field_front 63 ending bytes.now }
+{
+    let (n, rest) = field(63, ending, bytes)?;
+    let version = Version::new(n as u8)?;
+    Some((version, rest))
+}
+
+/// A number up to `most`, and what follows the byte behind it.
+#[tactic(auto, unfolding(crate::specs::Fronts::field_front))]
+pub(crate) fn field(most: u64, ending: u8, bytes: &[u8]) -> Option<(u64, &[u8])>
+    ensures value { option_map (λ x. (x.0, x.1.now)) result ≡ field_front most ending bytes.now }
+    ensures bound { IfSome result (λ x. x.0 ≤ most) }
+{
+    let (number, rest) = number_front(most, bytes)?;
+    let rest = after_word(&[ending], rest)?;
+    Some((number, rest))
+}
+
+// The number at the front, and what follows it.
+#[tactic(auto, unfolding(crate::specs::Fronts::number_front))]
+fn number_front(most: u64, bytes: &[u8]) -> Option<(u64, &[u8])>
+    ensures value { option_map (λ x. (x.0, x.1.now)) result ≡ number_front most bytes.now }
+    ensures bound { IfSome result (λ x. x.0 ≤ most) }
+{
+    match bytes {
+        [b'0', rest @ ..] => Some((0, rest)),
+        [first @ b'1'..=b'9', rest @ ..] if (*first - b'0') as u64 <= most => digits_on(
+            most,
+            (*first - b'0') as u64,
+            rest,
+        ),
+        _ => None,
+    }
+}
+
+// The number that goes on from `start` with the digits at the front, at most `most`, and what follows them.
+fn digits_on(most: u64, start: u64, bytes: &[u8]) -> Option<(u64, &[u8])>
+    requires { start ≤ most }
+    ensures value { option_map (λ x. (x.0, x.1.now)) result ≡ digits_on most start bytes.now }
+    ensures bound { IfSome result (λ x. x.0 ≤ most) }
+{
+    let mut number = start;
+    for (i, byte) in bytes.iter().enumerate() {
+        if !byte.is_ascii_digit() {
+            return Some((number, &bytes[i..]));
+        }
+        let next = 10 * number as u128 + (*byte - b'0') as u128;
+        if next > most as u128 {
+            return None;
+        }
+        number = next as u64;
+    }
+    Some((number, &[]))
+}
