@@ -6,3 +6,4 @@ mod Moving
 mod NewEntry
 mod PlannedSlot
 mod Usable
+mod Untouched
