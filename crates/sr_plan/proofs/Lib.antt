@@ -6,4 +6,3 @@ mod Moving
 mod NewEntry
 mod PlannedSlot
 mod Usable
-mod Untouched

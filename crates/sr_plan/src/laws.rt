@@ -1,11 +1,11 @@
 //! What the first plan means.
 
-ghost use Rattle.std.specs.Prelude.{◌≡◌, ◌++◌, ◌∷◌, ℕ, Bool, List, [], None, false};
+ghost use Rattle.std.specs.Prelude.{◌≡◌, ◌++◌, ◌∷◌, ℕ, List, [], None, false};
 ghost use Rattle.sr_base.specs.Key.{KeyView};
 ghost use Rattle.sr_base.specs.declared.place.Place.{Place};
 ghost use Rattle.sr_base.specs.declared.shape.Shape.{Shape};
 ghost use Rattle.sr_shadow.specs.Book.{is_registered, with_changed};
-ghost use Rattle.sr_shadow.specs.Entry.{closed, fresh, same_key, settled, swept};
+ghost use Rattle.sr_shadow.specs.Entry.{fresh, same_key, settled};
 ghost use Rattle.sr_shadow.specs.Plan.{AllClear, AllClearBut, first_plan, move_plan, row_plan, slot_plan};
 ghost use Rattle.sr_shadow.specs.declared.entry.Entry.{Entry};
 ghost use Rattle.sr_shadow.specs.declared.plan.Plan.TheVariants as plan;
@@ -27,11 +27,4 @@ pub fn taking_makes_no_room()
 pub fn slots_stay_apart()
     ensures { (shape : Shape) (es : List Entry) (key : KeyView) (place : Place) → first_plan shape es key ≡ plan.Slot place → AllClearBut key shape es
         → AllClear shape (with_changed (settled place) key es) }
-{}
-
-/// Closing and sweeping change no plan. So, with what `taking_makes_no_room` says, a key without a plan may have one only once an entry was
-/// retired, gave up a place, or settled in one.
-pub fn other_calls_change_no_plan()
-    ensures closing { (shape : Shape) (es : List Entry) (key own : KeyView) → first_plan shape (with_changed closed own es) key ≡ first_plan shape es key }
-    ensures sweeping { (shape : Shape) (es : List Entry) (key own : KeyView) (hit : Bool) → first_plan shape (with_changed (swept hit) own es) key ≡ first_plan shape es key }
 {}
