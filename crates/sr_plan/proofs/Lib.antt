@@ -2,6 +2,7 @@ mod Clearing
 mod Holding
 mod Later
 mod Listing
+mod Marking
 mod Moving
 mod NewEntry
 mod PlannedSlot

@@ -1,12 +1,12 @@
 //! What the first plan means.
 
-ghost use Rattle.std.specs.Prelude.{◌≡◌, ◌++◌, ◌∷◌, ℕ, List, [], None, false};
+ghost use Rattle.std.specs.Prelude.{◌≡◌, ◌++◌, ◌∷◌, ℕ, Bool, List, [], None, false};
 ghost use Rattle.sr_base.specs.Key.{KeyView};
 ghost use Rattle.sr_base.specs.declared.place.Place.{Place};
 ghost use Rattle.sr_base.specs.declared.shape.Shape.{Shape};
 ghost use Rattle.sr_shadow.specs.Book.{is_registered, with_changed};
-ghost use Rattle.sr_shadow.specs.Entry.{fresh, same_key, settled};
-ghost use Rattle.sr_shadow.specs.Plan.{AllClear, AllClearBut, first_plan, move_plan, row_plan, slot_plan};
+ghost use Rattle.sr_shadow.specs.Entry.{closed, fresh, same_key, settled, swept};
+ghost use Rattle.sr_shadow.specs.Plan.{AllClear, AllClearBut, KeepsPlaces, first_plan, move_plan, row_plan, slot_plan};
 ghost use Rattle.sr_shadow.specs.declared.entry.Entry.{Entry};
 ghost use Rattle.sr_shadow.specs.declared.plan.Plan.TheVariants as plan;
 
@@ -20,6 +20,14 @@ pub fn later_ways()
 pub fn taking_makes_no_room()
     ensures { (shape : Shape) (es : List Entry) (key other : KeyView) (version number : ℕ) → same_key key other ≡ false → is_registered other es ≡ false
         → first_plan shape es key ≡ plan.NoRoom → first_plan shape (es ++ fresh other version number ∷ []) key ≡ plan.NoRoom }
+{}
+
+/// What leaves each entry's key and places as they are, as a Close and a sweep do, changes no plan.
+pub fn marks_change_no_plan()
+    ensures same { (shape : Shape) (es : List Entry) (change : Entry → Entry) (marked key : KeyView) → ((e : Entry) → KeepsPlaces e (change e))
+        → first_plan shape (with_changed change marked es) key ≡ first_plan shape es key }
+    ensures close { (e : Entry) → KeepsPlaces e (closed e) }
+    ensures sweep { (e : Entry) (hit : Bool) → KeepsPlaces e (swept hit e) }
 {}
 
 /// Where packets of no other registered key outside the full-key table are taken for another connection's, a planned slot leaves it so, and the

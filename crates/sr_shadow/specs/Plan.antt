@@ -166,3 +166,11 @@ AllClear shape es = (i : ℕ) (e : Entry) → slice_get es i ≡ Some e → is_o
 
 abbrev pub AllClearBut : KeyView → Shape → List Entry → Type 0
 AllClearBut key shape es = (i : ℕ) (e : Entry) → slice_get es i ≡ Some e → is_of key e ≡ false → is_outside e ≡ true → is_clear shape es e.key ≡ true
+
+-- ---- what a plan is made of
+
+-- the key and the places are the same
+pub record KeepsPlaces (e f : Entry) : Type 0 where
+  pub key : f.key ≡ e.key
+  pub place : f.place ≡ e.place
+  pub also : f.also ≡ e.also
