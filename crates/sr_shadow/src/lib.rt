@@ -23,6 +23,3 @@ mod took;
 pub use entry::Entry;
 pub use shadow::{Shadow, book_rules};
 pub use took::Took;
-
-#[cfg(test)]
-mod tests;
