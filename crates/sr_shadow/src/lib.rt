@@ -26,6 +26,3 @@ pub use entry::Entry;
 pub use plan::Plan;
 pub use shadow::{Shadow, book_rules};
 pub use took::Took;
-
-#[cfg(test)]
-mod tests;
