@@ -4,13 +4,14 @@ ghost use Rattle.std.specs.Prelude.{◌≤◌};
 
 use sr_base::{Key, Layout, Place, Version, layout_ranges};
 use sr_hash::clashes;
-use sr_shadow::{Entry, Took};
+use sr_shadow::Entry;
 use std::alloc::{AllocError, Global};
 
+/// The entries in the order of taking, and how many were ever taken.
 #[derive(Drop)]
 pub(crate) struct Plain {
-    pub(crate) entries: Vec<Entry>,
-    pub(crate) taken: u64,
+    entries: Vec<Entry>,
+    taken: u64,
 }
 
 impl Plain {
@@ -18,6 +19,17 @@ impl Plain {
         Plain {
             entries: Vec::new(alloc),
             taken: 0,
+        }
+    }
+
+    pub(crate) fn len(&self) -> usize {
+        self.entries.len()
+    }
+
+    pub(crate) fn at(&self, i: usize) -> Option<Entry> {
+        match self.entries.get(i) {
+            Some(entry) => Some(*entry),
+            None => None,
         }
     }
 
@@ -30,10 +42,13 @@ impl Plain {
         None
     }
 
-    pub(crate) fn take(&mut self, key: Key, version: Version) -> Result<Took, AllocError> {
+    pub(crate) fn take(&mut self, key: Key, version: u8) -> Result<Option<bool>, AllocError> {
         if self.get(key).is_some() {
-            return Ok(Took::Same);
+            return Ok(Some(false));
         }
+        let Some(version) = Version::new(version) else {
+            return Ok(None);
+        };
         let entry = Entry {
             key,
             version,
@@ -45,11 +60,11 @@ impl Plain {
         };
         self.entries.push(entry)?;
         self.taken = self.taken.wrapping_add(1);
-        Ok(Took::New)
+        Ok(Some(true))
     }
 
     // Another entry for the key.
-    pub(crate) fn put(&mut self, entry: Entry) {
+    fn put(&mut self, entry: Entry) {
         for held in self.entries.iter_mut() {
             if held.key == entry.key {
                 *held = entry;
@@ -57,14 +72,71 @@ impl Plain {
         }
     }
 
-    pub(crate) fn retire(&mut self, key: Key) {
-        self.entries.retain(|entry: &Entry| entry.key != key);
+    pub(crate) fn close(&mut self, key: Key) -> bool {
+        match self.get(key) {
+            Some(mut entry) => {
+                entry.closed = true;
+                self.put(entry);
+                true
+            }
+            None => false,
+        }
     }
 
-    pub(crate) fn count(&self, vip: u8, version: Version) -> u64 {
+    pub(crate) fn settle(&mut self, key: Key, place: Place) -> bool {
+        match self.get(key) {
+            Some(mut entry) => {
+                if entry.also.is_some() || self.holder(place).is_some() {
+                    return false;
+                }
+                entry.also = entry.place;
+                entry.place = Some(place);
+                entry.quiet = None;
+                self.put(entry);
+                true
+            }
+            None => false,
+        }
+    }
+
+    pub(crate) fn leave(&mut self, key: Key) -> bool {
+        match self.get(key) {
+            Some(mut entry) => {
+                if entry.also.is_none() {
+                    return false;
+                }
+                entry.also = None;
+                self.put(entry);
+                true
+            }
+            None => false,
+        }
+    }
+
+    pub(crate) fn sweep(&mut self, key: Key, hit: bool) -> bool {
+        match self.get(key) {
+            Some(mut entry) => {
+                if entry.place.is_none() {
+                    return false;
+                }
+                entry.quiet = Some(quiet_sweeps(entry.quiet, hit));
+                self.put(entry);
+                true
+            }
+            None => false,
+        }
+    }
+
+    pub(crate) fn retire(&mut self, key: Key) -> Option<Entry> {
+        let known = self.get(key);
+        self.entries.retain(|entry: &Entry| entry.key != key);
+        known
+    }
+
+    pub(crate) fn count(&self, vip: u8, version: u8) -> u64 {
         let mut count: u64 = 0;
         for entry in self.entries.iter() {
-            if entry.key.vip == vip && entry.version == version {
+            if entry.key.vip == vip && entry.version.number() == version {
                 count = count.wrapping_add(1);
             }
         }
@@ -80,7 +152,8 @@ impl Plain {
         None
     }
 
-    pub(crate) fn clashing(&self, layout: &Layout, way: u8, key: Key) -> bool
+    // Whether another key outside the full-key table clashes with this one in a way.
+    fn clashing_in(&self, layout: &Layout, way: u8, key: Key) -> bool
         requires { (1 ≤ way) × (way ≤ 2) }
     {
         layout_ranges(layout);
@@ -93,6 +166,34 @@ impl Plain {
         false
     }
 
+    pub(crate) fn clashing(&self, layout: &Layout, key: Key) -> (bool, bool) {
+        (
+            self.clashing_in(layout, 1, key),
+            self.clashing_in(layout, 2, key),
+        )
+    }
+
+    // How many stand in a slot of a way and clash with this key in it.
+    fn standing_in(&self, layout: &Layout, way: u8, key: Key) -> u64
+        requires { (1 ≤ way) × (way ≤ 2) }
+    {
+        layout_ranges(layout);
+        let mut count: u64 = 0;
+        for entry in self.entries.iter() {
+            if stands_in(entry, way) && clashes(layout.shape(), way, key, entry.key) {
+                count = count.wrapping_add(1);
+            }
+        }
+        count
+    }
+
+    pub(crate) fn standing(&self, layout: &Layout, key: Key) -> (u64, u64) {
+        (
+            self.standing_in(layout, 1, key),
+            self.standing_in(layout, 2, key),
+        )
+    }
+
     // The first entry from a number on, with a Live place or without one.
     pub(crate) fn first(&self, number: u64, placed: bool) -> Option<Entry> {
         for entry in self.entries.iter() {
@@ -101,5 +202,19 @@ impl Plain {
             }
         }
         None
+    }
+}
+
+fn stands_in(entry: &Entry, way: u8) -> bool {
+    match entry.place {
+        Some(Place::Slot { way: at, .. }) => at == way,
+        _ => false,
+    }
+}
+
+fn quiet_sweeps(quiet: Option<u8>, hit: bool) -> u8 {
+    match quiet {
+        None => 0,
+        Some(n) => { if hit { 0 } else { n.saturating_add(1) } }
     }
 }

@@ -1,18 +1,51 @@
 //! A repeated take, and calls with an unknown key.
-use crate::small::{client, small_layout, version};
-use sr_shadow::{Shadow, Took};
+use crate::small::{Book, client, small_layout};
+use sr_base::Layout;
+use std::alloc::{AllocError, Global};
 use std::test::Fail;
+
+// What a book answers to a repeated take and to calls with an unknown key: whether the first and the second take were of a new key, the version
+// of the entry, whether an unknown key was closed or retired, and how many are registered.
+fn told(alloc: Global, book: &mut Book) -> Result<Answers, AllocError> {
+    let first = book.take(alloc, client(4000), 0)?;
+    let second = book.take(alloc, client(4000), 1)?;
+    Ok(Answers {
+        first,
+        second,
+        version: book.version_of(client(4000)),
+        closed: book.close(client(4001)),
+        retired: book.retire(client(4001)).is_some(),
+        registered: book.len(),
+    })
+}
+
+#[derive(Clone, Copy, Debug, PartialEq, Eq)]
+struct Answers {
+    first: Option<bool>,
+    second: Option<bool>,
+    version: Option<u8>,
+    closed: bool,
+    retired: bool,
+    registered: usize,
+}
+
+// The same of a new book.
+fn told_of(alloc: Global, layout: &Layout) -> Result<Answers, AllocError> {
+    let mut book = Book::new(alloc, layout)?;
+    told(alloc, &mut book)
+}
 
 #[test]
 fn a_repeated_take_keeps_the_version(rt: HostRuntime) -> Result<(), Fail> {
-    let alloc = rt.alloc();
     let layout = small_layout().expect(&rt, "a layout");
-    let mut book = Shadow::new(alloc, &layout)?;
-    assert_eq!(rt; book.take(alloc, client(4000), version(0))?, Took::New);
-    assert_eq!(rt; book.take(alloc, client(4000), version(1))?, Took::Same);
-    assert_eq!(rt; book.get(client(4000)).map(|e| e.version), Some(version(0)));
-    assert!(rt; !book.close(client(4001)));
-    assert!(rt; book.retire(client(4001)).is_none());
-    assert_eq!(rt; book.len(), 1);
+    let expected = Answers {
+        first: Some(true),
+        second: Some(false),
+        version: Some(0),
+        closed: false,
+        retired: false,
+        registered: 1,
+    };
+    assert_eq!(rt; told_of(rt.alloc(), &layout)?, expected);
     Ok(())
 }
