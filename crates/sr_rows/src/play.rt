@@ -72,15 +72,7 @@ pub fn play_over<R: Threads + Sync, F: Shelf>(
     let write_fails = Vec::from_slice(alloc, &[row.write_fails])?;
     let mut source = MemSource::new(input, row.piece.max(1), read_fails);
     let mut sink = MemSink::new(alloc, 262_144, write_fails)?;
-    let status = run(
-        rt,
-        alloc,
-        &words,
-        &mut source,
-        shelf,
-        &mut sink,
-        &OpenGate,
-    );
+    let status = run(rt, alloc, &words, &mut source, shelf, &mut sink, &OpenGate);
     let output = Vec::from_slice(alloc, sink.bytes())?;
     Ok(Played { status, output })
 }
