@@ -17,6 +17,3 @@ pub use laws::{later_ways, marks_change_no_plan, slots_stay_apart, taking_makes_
 pub use plain::plan_plain;
 pub use planning::plan;
 pub use sr_shadow::Plan;
-
-#[cfg(test)]
-mod tests;
