@@ -1,8 +1,9 @@
 #!/usr/bin/env python3
 """Times the commands that exist on captures of 200,000 and 4,194,304 packets, and writes RESULTS.md beside this file.
 
-Usage: measure.py PROGRAM, the built program (crates/silkroad/out/silkroad). Each figure is the best of five runs, of `tcpdump` one, over the smaller
-capture alone, since it takes minutes over the larger. It is no test.
+Usage: measure.py PROGRAM [BOOK]. PROGRAM is the built program (crates/silkroad/out/silkroad). BOOK is the built program of book_main.txt, which
+takes keys into the controller's book and retires them: put it as src/main.rt into a crate `book`, with the line `book: sr_shadow sr_base` in a
+copy of crates.txt, and `rt run` it there. Each figure is the best of five runs, of `tcpdump` one, over the smaller capture alone. It is no test.
 """
 import os
 import platform
@@ -68,6 +69,13 @@ def audits(program, folder):
     yield row("`silkroad audit`, judging", lines, seconds, peak)
 
 
+def books(program):
+    """Rows of the book: so many keys are taken, and retired in the order of taking."""
+    for keys in (100_000, 400_000):
+        seconds, peak = best([program, str(keys)], os.devnull)
+        yield row("the book: take, then retire", keys, seconds, peak)
+
+
 def main():
     program = os.path.abspath(sys.argv[1])
     rows = []
@@ -88,12 +96,14 @@ def main():
             else:
                 rows.append(f"| `tcpdump -nr` | {packets:,} | not installed | | | |")
         rows.extend(audits(program, folder))
+        if len(sys.argv) > 2:
+            rows.extend(books(os.path.abspath(sys.argv[2])))
     cores = os.cpu_count()
     text = (
         "# Measurements\n\n"
         f"Best of five (`tcpdump`: one run), standard input a file, standard output dropped. A peak of 14 MB is the measuring script's own floor."
         f" {platform.system()} {platform.machine()}, {cores} processors.\n\n"
-        "| command | packets or lines | seconds | millions of them per second | peak memory, MB | bytes for each |\n"
+        "| command | packets, lines or keys | seconds | millions of them per second | peak memory, MB | bytes for each |\n"
         "|---|---|---|---|---|---|\n" + "\n".join(rows) + "\n"
     )
     with open(os.path.join(os.path.dirname(os.path.abspath(__file__)), "RESULTS.md"), "w") as out:
