@@ -82,17 +82,21 @@ fn come(scene: &mut Scene, alloc: Global, n: u16) -> Result<(), AllocError> {
     Ok(())
 }
 
-/// Keys come to an empty book; both bodies give the same plan each time. The answer is the kinds of plan that came, as bits, or None where the
-/// bodies differ.
-pub(crate) fn kinds(alloc: Global, layout: Layout, clients: u16) -> Result<Option<u8>, AllocError> {
-    let mut scene = Scene::new(alloc, layout)?;
+// Keys come to a book; both bodies give the same plan each time. The answer is the kinds of plan that came, as bits, or None where the bodies differ.
+fn kinds_in(scene: &mut Scene, alloc: Global, clients: u16) -> Result<Option<u8>, AllocError> {
     let mut kinds = 0;
     for n in 0..clients {
-        match agreed(&scene, alloc, nth_client(n))? {
+        match agreed(scene, alloc, nth_client(n))? {
             Some(kind) => kinds |= kind,
             None => return Ok(None),
         }
-        come(&mut scene, alloc, n)?;
+        come(scene, alloc, n)?;
     }
     Ok(Some(kinds))
+}
+
+/// The same of an empty book.
+pub(crate) fn kinds(alloc: Global, layout: Layout, clients: u16) -> Result<Option<u8>, AllocError> {
+    let mut scene = Scene::new(alloc, layout)?;
+    kinds_in(&mut scene, alloc, clients)
 }

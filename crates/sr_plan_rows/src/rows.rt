@@ -1,73 +1,87 @@
+//! The worked rows of the plan, and both bodies on many books.
 use crate::books::{bucket_of, client, kinds, layout_of};
 use crate::scene::Scene;
-use sr_base::Place;
+use sr_base::{Layout, Place};
 use sr_plan::Plan;
+use std::alloc::{AllocError, Global};
 use std::test::Fail;
+
+// The first cell of a bucket.
+fn cell_of(way: u8, bucket: u32) -> Place {
+    Place::Slot {
+        way,
+        bucket,
+        cell: 0,
+    }
+}
+
+// The plan of the last client once those before it have come: so many rows are filled, after a slot. Each comes to where it is put.
+fn plan_after(scene: &mut Scene, alloc: Global, rows: u32) -> Result<Option<Plan>, AllocError> {
+    scene.take(alloc, client(9, 4000))?;
+    scene.settle(client(9, 4000), cell_of(1, 0));
+    for row in 0..rows.min(4) {
+        let key = client(10 + row as u8, 4000);
+        scene.take(alloc, key)?;
+        scene.settle(key, Place::Row { row });
+    }
+    Ok(scene.plan(client(14, 4000)))
+}
+
+fn plan_of(alloc: Global, layout: Layout, rows: u32) -> Result<Option<Plan>, AllocError> {
+    let mut scene = Scene::new(alloc, layout)?;
+    plan_after(&mut scene, alloc, rows)
+}
+
+fn first_plan_of(alloc: Global, layout: Layout) -> Result<Option<Plan>, AllocError> {
+    let scene = Scene::new(alloc, layout)?;
+    Ok(scene.plan(client(9, 4000)))
+}
 
 // One bucket of each way and no digest bits: all keys clash.
 #[test]
 fn a_slot_then_rows_then_no_room(rt: HostRuntime) -> Result<(), Fail> {
     let alloc = rt.alloc();
     let layout = layout_of(1, 0).expect(&rt, "a layout");
-    let mut scene = Scene::new(alloc, layout)?;
-    let place = Place::Slot {
-        way: 1,
-        bucket: 0,
-        cell: 0,
-    };
-    assert_eq!(rt; scene.plan(client(9, 4000)), Some(Plan::Slot { place }));
-    scene.take(alloc, client(9, 4000))?;
-    scene.settle(client(9, 4000), place);
+    let place = cell_of(1, 0);
+    assert_eq!(rt; first_plan_of(alloc, layout)?, Some(Plan::Slot { place }));
     for row in 0..4u32 {
-        let key = client(10 + row as u8, 4000);
-        assert_eq!(rt; scene.plan(key), Some(Plan::FullKey { row }), "row {row}");
-        scene.take(alloc, key)?;
-        scene.settle(key, Place::Row { row });
+        assert_eq!(rt;
+            plan_of(alloc, layout, row)?,
+            Some(Plan::FullKey { row }),
+            "row {row}"
+        );
     }
-    assert_eq!(rt; scene.plan(client(14, 4000)), Some(Plan::NoRoom));
+    assert_eq!(rt; plan_of(alloc, layout, 4)?, Some(Plan::NoRoom));
     Ok(())
+}
+
+// The plan of the second key, beside the first one in its slot.
+fn plan_beside(scene: &mut Scene, alloc: Global) -> Result<Option<Plan>, AllocError> {
+    scene.place(alloc, client(9, 4000))?;
+    Ok(scene.plan(client(14, 1024)))
+}
+
+fn plan_beside_of(alloc: Global, layout: Layout) -> Result<Option<Plan>, AllocError> {
+    let mut scene = Scene::new(alloc, layout)?;
+    plan_beside(&mut scene, alloc)
 }
 
 // Two buckets of each way: a key whose bucket of way 1 is A's and whose bucket of way 2 isn't.
 #[test]
 fn a_move(rt: HostRuntime) -> Result<(), Fail> {
-    let alloc = rt.alloc();
     let layout = layout_of(2, 0).expect(&rt, "a layout");
-    let mut scene = Scene::new(alloc, layout)?;
     let a = client(9, 4000);
     let b = client(14, 1024);
-    let [x, y, z] = [
-        bucket_of(&layout, 2, a),
-        bucket_of(&layout, 1, a),
-        bucket_of(&layout, 2, b),
-    ];
+    let y = bucket_of(&layout, 1, a);
     assert_eq!(rt; bucket_of(&layout, 1, b), y);
-    assert!(rt; z != x);
-    scene.place(alloc, a)?;
-    let from = Place::Slot {
-        way: 1,
-        bucket: y,
-        cell: 0,
+    assert!(rt; bucket_of(&layout, 2, b) != bucket_of(&layout, 2, a));
+    let planned = Plan::Move {
+        key: a,
+        from: cell_of(1, y),
+        to: cell_of(2, bucket_of(&layout, 2, a)),
+        then: cell_of(2, bucket_of(&layout, 2, b)),
     };
-    let to = Place::Slot {
-        way: 2,
-        bucket: x,
-        cell: 0,
-    };
-    let then = Place::Slot {
-        way: 2,
-        bucket: z,
-        cell: 0,
-    };
-    assert_eq!(rt;
-        scene.plan(b),
-        Some(Plan::Move {
-            key: a,
-            from,
-            to,
-            then
-        })
-    );
+    assert_eq!(rt; plan_beside_of(rt.alloc(), layout)?, Some(planned));
     Ok(())
 }
 
