@@ -45,11 +45,12 @@ def row(name, packets, seconds, peak):
 
 def log_of(program, capture, path, last=b""):
     """Writes the log that `one` prints of a capture, and a last line; answers how many lines the text has."""
-    with open(capture, "rb") as source:
-        text = subprocess.run([program, *ONE], stdin=source, stdout=subprocess.PIPE, check=True).stdout + last
-    with open(path, "wb") as out:
-        out.write(text)
-    return text.count(b"\n")
+    with open(capture, "rb") as source, open(path, "wb") as out:
+        subprocess.run([program, *ONE], stdin=source, stdout=out, check=True)
+        out.seek(0, os.SEEK_END)
+        out.write(last)
+    with open(path, "rb") as log:
+        return sum(1 for _ in log)
 
 
 def audits(program, folder):
