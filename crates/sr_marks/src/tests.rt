@@ -62,17 +62,6 @@ fn set_and_taken_away(rt: HostRuntime) -> Result<(), Fail> {
     Ok(())
 }
 
-#[test]
-fn empty_with_room(rt: HostRuntime) -> Result<(), Fail> {
-    let mut marks = Marks::with_room(rt.alloc(), 100)?;
-    assert_eq!(rt; (marks.len(), marks.nth(0), marks.next(0)), (0, None, None));
-    for _ in 0..100 {
-        put(rt.alloc(), &mut marks, true)?;
-    }
-    assert_eq!(rt; (marks.len(), marks.count()), (100, 100));
-    Ok(())
-}
-
 // The first set one from here on, and how many are set before it, by looking at each.
 fn looked_up(plain: &[bool], from: usize) -> (usize, Option<usize>) {
     let mut before = 0usize;
