@@ -1,6 +1,6 @@
 -- What it says of each clause that a line breaks none.
-use Rattle.std.proofs.Common.{◌≡◌, ℕ, zero, suc, ◌+◌, ◌<◌, ◌≤◌, ◌↔◌, Bool, true, false, cond, ◌&&◌, ◌||◌, refl, sym, ap, subst, ◌∙◌, List, [], ◌∷◌, ◌++◌, length, get_or, take, reverse, Option, Some, None, inl, inr, arith}
-use Rattle.std.specs.List.{slice_get, list_any}
+use Rattle.std.proofs.Common.{◌≡◌, ℕ, ◌+◌, ◌↔◌, Bool, true, false, ◌&&◌, ◌||◌, refl, sym, ap, subst, ◌∙◌, List, [], ◌∷◌, ◌++◌, length, take, reverse, Option, None, inl, inr}
+use Rattle.std.specs.List.{list_any}
 use Rattle.std.proofs.lemmas.Bool.{and_parts, and_from, or_cases, or_left, or_right}
 use Rattle.std.proofs.lemmas.List.{reverse-append}
 use Rattle.std.proofs.lemmas.Option.{none-some}
@@ -11,7 +11,7 @@ use Rattle.sr_law.specs.declared.clause.Clause.TheVariants as C
 use Rattle.sr_law.specs.declared.line.Line.{Line}
 use Rattle.sr_law.specs.declared.line.Line.TheVariants.{Swept, Retired}
 use Rattle.sr_law.specs.Cause.{meets_cause}
-use Rattle.sr_law.specs.Lawful.{where_met, broken, NoLineBreaks, breach_at, breach_first, first_broken}
+use Rattle.sr_law.specs.Lawful.{where_met, broken, NoLineBreaks, breach_at, first_broken}
 use Rattle.sr_law.specs.Newer.{meets_newer}
 use Rattle.sr_law.specs.Number.{meets_number}
 use Rattle.sr_law.specs.Opening.{is_open}

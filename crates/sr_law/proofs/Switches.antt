@@ -1,20 +1,20 @@
 -- In a lawful list a connection that is opened after a switch uses that pool or a later one: pools are given, and switched to, in the
 -- order of their numbers.
-use Rattle.std.proofs.Common.{◌≡◌, ℕ, zero, suc, ◌+◌, ◌<◌, ◌≤◌, ◌⊎◌, Bool, true, false, not, cond, ◌&&◌, ◌||◌, List, [], ◌∷◌, length, get_or, take, reverse, Option, Some, None, refl, sym, ap, subst, ◌∙◌, inl, inr, arith}
+use Rattle.std.proofs.Common.{◌≡◌, ℕ, zero, suc, ◌<◌, ◌≤◌, ◌⊎◌, Bool, true, false, not, cond, ◌&&◌, List, [], ◌∷◌, length, get_or, take, reverse, Option, Some, None, refl, sym, ap, subst, ◌∙◌, inl, inr, arith}
 use Rattle.std.specs.List.{slice_get, list_any}
 use Rattle.std.specs.Prelude.{nat_eq, nat_le, nat_lt, is_some}
 use Rattle.std.proofs.Math.Numerals.{add-one}
-use Rattle.std.proofs.lemmas.Bool.{and_parts, and_from, or_cases, or_parts, and_cases, cases_Bool, cases_lt, eqb-true, eq-eqb, leb-true, leb-false, lt-ltb, not-true, both_ways, false≢true}
+use Rattle.std.proofs.lemmas.Bool.{and_parts, and_from, or_cases, or_parts, cases_Bool, cases_lt, eqb-true, eq-eqb, leb-true, leb-false, lt-ltb, not-true, false≢true}
 use Rattle.std.proofs.lemmas.Option.{none-some, same_Some, slice_get_within, get_or_from_slice_get}
 use Rattle.sr_base.specs.Key.{KeyView}
 use Rattle.sr_law.specs.declared.giving.Giving.{Giving}
 use Rattle.sr_law.specs.declared.line.Line.{Line}
 use Rattle.sr_law.specs.declared.line.Line.TheVariants.{Given, Switched, Recorded}
 use Rattle.sr_law.specs.declared.opening.Opening.{Opening}
-use Rattle.sr_law.specs.Given.{given_by, given_last, last_given, has_pool}
+use Rattle.sr_law.specs.Given.{last_given, has_pool}
 use Rattle.sr_law.specs.Groups.{was_given_past, names_next_pool, keeps_groups, after_gives, last_of_update, goes_on, is_opening_give}
 use Rattle.sr_law.specs.Lawful.{NoLineBreaks}
-use Rattle.sr_law.specs.Newer.{switched_by, pool_last, last_switched, is_from, is_up_to, is_new_pool, opens_new, meets_newer}
+use Rattle.sr_law.specs.Newer.{pool_last, last_switched, is_from, is_up_to, is_new_pool, opens_new, meets_newer}
 use Rattle.sr_law.specs.Opening.{opening, is_open, opened_by}
 use Rattle.sr_law.specs.Order.{meets_order, refuses_next}
 use Rattle.sr_law.specs.Pools.{VipPools, pool_of}
@@ -24,7 +24,7 @@ use Rattle.sr_law.specs.Rising.{rises}
 use Rattle.sr_law.specs.Setup.{SetupView}
 use Rattle.sr_law.specs.Taken.{keeps_places}
 use Rattle.sr_law.specs.Ticks.{key_of, start_of}
-use Rattle.sr_law.proofs.Clauses.{Meets, meets}
+use Rattle.sr_law.proofs.Clauses.{meets}
 use Rattle.sr_law.proofs.Kept.{met_at}
 use Rattle.sr_law.proofs.Newest.{newest_more}
 

@@ -11,11 +11,11 @@ use Rattle.sr_base.specs.declared.shape.Shape.{Shape}
 use Rattle.sr_hash.specs.Clash.{clashes}
 use Rattle.sr_shadow.specs.Book.{entry_for, is_registered, is_stander, standing_of, DistinctKeys}
 use Rattle.sr_shadow.specs.Entry.{is_of, is_placed, is_slot_in}
-use Rattle.sr_shadow.proofs.Splits.{same_key-true}
 use Rattle.sr_shadow.specs.Plan.{clashes_at, is_clear_but, is_mistaken, is_mistaken_but}
 use Rattle.sr_shadow.specs.declared.entry.Entry.{Entry}
 use Rattle.sr_plan.specs.Clear.{mistaken_one}
 use Rattle.sr_plan.specs.Moves.{NonePlaced}
+use Rattle.sr_base.proofs.Sameness.{same_key-true}
 
 -- the entry is the other key's, and the key's packets are taken for its own
 abbrev is_mistaken_of : Shape → KeyView → KeyView → Entry → Bool

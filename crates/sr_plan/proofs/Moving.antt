@@ -4,18 +4,20 @@ use Rattle.std.proofs.lemmas.Bool.Decides.{nat_tests}
 use Rattle.std.proofs.lemmas.List.Folds.{list_any-append}
 use Rattle.std.proofs.lemmas.List.Sums.{sum_by-cons}
 use Rattle.std.specs.List.{list_any}
-use Rattle.sr_base.specs.Key.{KeyView}
+use Rattle.sr_base.specs.Key.{KeyView, same_key}
+use Rattle.sr_base.specs.Place.{same_place}
 use Rattle.sr_base.specs.declared.place.Place.{Place}
 use Rattle.sr_base.specs.declared.place.Place.TheVariants.{Slot, Row}
 use Rattle.sr_base.specs.declared.shape.Shape.{Shape}
 use Rattle.sr_hash.specs.Clash.{clashes}
 use Rattle.sr_shadow.specs.Book.{entry_for, holder_of, is_clashing, is_registered, is_rival, DistinctKeys, HeldOnce}
-use Rattle.sr_shadow.specs.Entry.{fresh, holds, is_at, is_of, is_outside, is_placed, is_row, same_key, same_place, times_held}
+use Rattle.sr_shadow.specs.Entry.{fresh, holds, is_at, is_of, is_outside, is_placed, is_row, times_held}
 use Rattle.sr_shadow.specs.Plan.{entry_at, first_usable, is_free, moved, slots_in, slots_of, target, with_key, with_moved}
 use Rattle.sr_shadow.specs.declared.entry.Entry.{Entry}
-use Rattle.sr_shadow.proofs.Splits.{changed_none, same_key-true}
+use Rattle.sr_base.proofs.Sameness.{same_key-true, same_key-sym}
+use Rattle.sr_shadow.proofs.Splits.{changed_none}
 use Rattle.sr_plan.specs.Moves.{IsMover, NonePlaced, is_nobody_else, is_slot}
-use Rattle.sr_plan.proofs.Holding.{found_any, found_passes, none_holds, same_key-sym, some_same}
+use Rattle.sr_plan.proofs.Holding.{found_any, found_passes, none_holds, some_same}
 use Rattle.sr_plan.proofs.Usable.{usable_slot}
 
 -- a place is free where no entry holds it

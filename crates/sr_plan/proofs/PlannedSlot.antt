@@ -14,7 +14,7 @@ use Rattle.sr_shadow.specs.Entry.{is_of, is_outside, settled}
 use Rattle.sr_shadow.specs.Plan.{AllClear, AllClearBut, clashes_at, first_plan, first_usable, is_clear, is_mistaken, is_usable, key_slots, slot_if_clear, slot_plan}
 use Rattle.sr_shadow.specs.declared.entry.Entry.{Entry}
 use Rattle.sr_shadow.specs.declared.plan.Plan.TheVariants as plan
-use Rattle.sr_shadow.proofs.Splits.{same_key-true}
+use Rattle.sr_base.proofs.Sameness.{same_key-true}
 use Rattle.sr_plan.proofs.Holding.{some_same}
 use Rattle.sr_plan.proofs.Later.{slot_first}
 

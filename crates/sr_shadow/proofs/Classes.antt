@@ -7,16 +7,17 @@ use Rattle.std.proofs.lemmas.List.Sums.{count_by-le-length, sum_by-cons}
 use Rattle.std.proofs.lemmas.Nat.{mod_below, pow_pos}
 use Rattle.std.proofs.Math.Nat.{pow-le-pow_right}
 use Rattle.std.specs.List.{list_any}
-use Rattle.sr_base.specs.Key.{KeyView}
+use Rattle.sr_base.specs.Key.{KeyView, same_key}
 use Rattle.sr_base.specs.declared.shape.Shape.{Shape}
 use Rattle.sr_hash.specs.Clash.{clashes}
 use Rattle.sr_hash.specs.Keyed.{hash_of}
 use Rattle.sr_hash.specs.Uses.{bucket_of, digest_of}
-use Rattle.sr_shadow.specs.Entry.{is_of, is_outside, same_key, stands_in}
+use Rattle.sr_shadow.specs.Entry.{is_of, is_outside, stands_in}
 use Rattle.sr_shadow.specs.Rivals.{class_of, is_member, is_outsider, no_tally, own_outside, tally_of, FewTallied, HasTallied, Tallied, IsClassed}
 use Rattle.sr_shadow.specs.declared.entry.Entry.{Entry}
 use Rattle.sr_shadow.specs.declared.tally.Tally.{Tally}
-use Rattle.sr_shadow.proofs.Splits.{Split, split, count_split, count_joined, registered_none, same_key-self}
+use Rattle.sr_base.proofs.Sameness.{same_key-self}
+use Rattle.sr_shadow.proofs.Splits.{Split, split, count_split, count_joined, registered_none}
 use Rattle.sr_shadow.specs.Book.{entry_for, is_registered, is_rival, is_clashing, is_stander, standing_of, DistinctKeys}
 
 -- numbers of three parts are one where the parts are

@@ -1,11 +1,12 @@
 -- Who holds a place, around an entry; and steps of the table of holders.
-use Rattle.std.proofs.Common.{◌≡◌, ℕ, ◌+◌, ◌*◌, ◌-◌, ◌<◌, ◌≤◌, Bool, true, false, cond, not, ◌&&◌, ◌||◌, List, [], ◌∷◌, ◌++◌, length, set, get_or, find, sum_by, Option, None, Some, is_some, option_map, refl, sym, ◌∙◌, ap, subst, true≢false, eqb, ltb, arith}
+use Rattle.std.proofs.Common.{◌≡◌, ℕ, ◌+◌, ◌*◌, ◌-◌, ◌<◌, ◌≤◌, Bool, true, false, cond, List, [], ◌∷◌, ◌++◌, length, set, get_or, find, sum_by, Option, None, Some, is_some, option_map, refl, sym, ◌∙◌, ap, subst, true≢false, eqb, arith}
 use Rattle.std.proofs.lemmas.Bool.Decides.{nat_tests}
-use Rattle.std.proofs.lemmas.Grind.{common_steps, get_or-set_at}
+use Rattle.std.proofs.lemmas.Grind.{common_steps}
 use Rattle.std.proofs.lemmas.List.Folds.{find-append}
 use Rattle.std.proofs.lemmas.List.Sums.{sum_by-append, sum_by-cons}
 use Rattle.sr_base.specs.Key.{KeyView}
 use Rattle.sr_base.specs.Layout.{LayoutView}
+use Rattle.sr_base.specs.Place.{same_place}
 use Rattle.sr_base.specs.WordName.{HasPlace, HasWord, NamesApart, entries_of, entry_number, place_of}
 use Rattle.sr_base.specs.declared.place.Place.{Place}
 use Rattle.sr_base.specs.declared.place.Place.TheVariants.{Slot, Row}
@@ -13,20 +14,10 @@ use Rattle.sr_base.specs.declared.shape.Shape.{Shape}
 use Rattle.sr_base.specs.declared.word_name.WordName.{WordName}
 use Rattle.sr_base.specs.declared.word_name.WordName.TheVariants as word
 use Rattle.sr_shadow.specs.Book.{holder_of, HeldOnce}
-use Rattle.sr_shadow.specs.Entry.{holds, times_held, is_at, same_place, settled, left_other}
+use Rattle.sr_shadow.specs.Entry.{holds, times_held, is_at, settled, left_other}
 use Rattle.sr_shadow.specs.Holders.{HeldBy, name_of}
 use Rattle.sr_shadow.specs.declared.entry.Entry.{Entry}
-
--- equal parts, equal places
-pub same_place-true : (a b : Place) → same_place a b ≡ true → a ≡ b
-same_place-true (Slot w b c) (Slot v d e) h = grind (arith, nat_tests)
-same_place-true (Slot w b c) (Row r) h = absurd (true≢false (sym h))
-same_place-true (Row r) (Slot w b c) h = absurd (true≢false (sym h))
-same_place-true (Row r) (Row s) h = grind (arith, nat_tests)
-
-pub same_place-self : (a : Place) → same_place a a ≡ true
-same_place-self (Slot w b c) = grind (arith, nat_tests)
-same_place-self (Row r) = grind (arith, nat_tests)
+use Rattle.sr_base.proofs.Sameness.{same_place-true, same_place-self}
 
 -- a layout's places have numbers of their own, below the number of them all
 slot_below : (buckets way bucket cell : ℕ) → 1 ≤ way → way ≤ 2 → bucket < buckets → cell < 4 → ((way - 1) * buckets + bucket) * 4 + cell < 8 * buckets

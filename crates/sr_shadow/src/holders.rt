@@ -1,8 +1,9 @@
 ghost use Rattle.std.specs.Prelude.{◌≡◌, ◌<◌, List, [], ◌∷◌, ◌++◌, length, cond, slice_index_or, None, IfOk, MatchOption};
+ghost use Rattle.sr_base.specs.Place.{same_place};
 ghost use Rattle.sr_base.specs.WordName.{HasPlace, entries_of, entry_number};
 ghost use Rattle.sr_base.specs.declared.place.Place.{Place as APlace};
 ghost use Rattle.sr_shadow.specs.Book.{holder_of, HeldOnce};
-ghost use Rattle.sr_shadow.specs.Entry.{same_place, settled, left_other};
+ghost use Rattle.sr_shadow.specs.Entry.{settled, left_other};
 ghost use Rattle.sr_shadow.specs.Holders.{HeldBy, name_of};
 ghost use Rattle.sr_shadow.specs.declared.entry.Entry.{Entry as AnEntry};
 

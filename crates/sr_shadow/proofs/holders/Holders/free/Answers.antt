@@ -1,6 +1,5 @@
-use Rattle.std.proofs.Common.{◌++◌, ◌∷◌, refl, sym, subst, ◌∙◌}
+use Rattle.std.proofs.Common.{◌++◌, ◌∷◌, refl}
 use Rattle.sr_shadow.specs.Entry.{left_other}
-use Rattle.sr_shadow.specs.Holders.{HeldBy}
 use Rattle.sr_shadow.proofs.Places.{holder_gone, holder_none, held_alike, once_left}
 use Rattle.sr_shadow.proofs.holders.Holders.free.Goals as goal
 
