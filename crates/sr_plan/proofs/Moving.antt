@@ -1,5 +1,6 @@
 -- The book with an entry at another place.
 use Rattle.std.proofs.Common.{◌≡◌, ℕ, ◌≤◌, Bool, true, false, cond, ◌&&◌, ◌||◌, not, List, [], ◌∷◌, ◌++◌, find, sum_by, is_none, is_some, Option, None, Some, option_map, refl, sym, ◌∙◌, ap, subst, true≢false, arith}
+use Rattle.std.proofs.lemmas.Bool.{and_parts}
 use Rattle.std.proofs.lemmas.Bool.Decides.{nat_tests}
 use Rattle.std.proofs.lemmas.List.Folds.{list_any-append}
 use Rattle.std.proofs.lemmas.List.Sums.{sum_by-cons}
@@ -64,10 +65,6 @@ fewer p q (e ∷ es) le h = by (p e) (q e) refl refl (fewer p q es le) h
     by false true s t more h = absurd (true≢false (sym (le e t) ∙ s))
     by false false s t more h = more h
 
-second_true : (a b : Bool) → (a && b) ≡ true → b ≡ true
-second_true true b e = e
-second_true false b e = absurd cc
-
 -- where only the key's entry holds the place, no other does
 alone : (place : Place) (es : List Entry) (e : Entry) (other : KeyView) → sum_by (times_held place) es ≤ 1 → find (holds place) es ≡ Some e → is_of other e ≡ true → list_any (holds_but other place) es ≡ false
 alone place [] e other once h own = refl
@@ -88,7 +85,7 @@ alone place (x ∷ xs) e other once h own = by (holds place x) refl (λ few f. a
         let rest : sum_by (times_held place) xs ≡ 0 = grind (arith, nat_tests, sum_by-cons (times_held place) x xs) in
         ap (λ b. (not (is_of other x) && b) || list_any (holds_but other place) xs) s
         ∙ off (is_of other x) (list_any (holds_but other place) xs) mine
-        ∙ fewer (holds place) (holds_but other place) xs (λ y t. second_true (not (is_of other y)) (holds place y) t) (none_holds place xs rest)
+        ∙ fewer (holds place) (holds_but other place) xs (λ y t. (and_parts (not (is_of other y)) (holds place y) t).1) (none_holds place xs rest)
     by false s more h =
         let rest : sum_by (times_held place) xs ≤ 1 = grind (arith, nat_tests, sum_by-cons (times_held place) x xs) in
         ap (λ b. (not (is_of other x) && b) || list_any (holds_but other place) xs) s
