@@ -97,37 +97,28 @@ pub once_left : (front back : List Entry) (e : Entry) → HeldOnce (front ++ e �
 once_left front back e once = once_less front back e (left_other e) once (left_holds e)
 
 -- an entry that gives up its other place
-pub holder_left : (place : Place) (front back : List Entry) (e : Entry) → HeldOnce (front ++ e ∷ back) → e.also ≡ Some place
-    → (other : Place) → holder_of other (front ++ left_other e ∷ back) ≡ cond (same_place other place) None (holder_of other (front ++ e ∷ back))
-holder_left place front back e once held other = by (same_place other place) refl
+pub holder_left : (front back : List Entry) (e : Entry) → HeldOnce (front ++ e ∷ back)
+    → (other : Place) → holder_of other (front ++ left_other e ∷ back) ≡ cond (is_at other e.also) None (holder_of other (front ++ e ∷ back))
+holder_left front back e once other = by (is_at other e.also) refl
   where
-    by : (b : Bool) → same_place other place ≡ b → holder_of other (front ++ left_other e ∷ back) ≡ cond b None (holder_of other (front ++ e ∷ back))
-    by true t =
-        let mine : is_at other e.also ≡ true = ap (is_at other) held ∙ t in
+    by : (b : Bool) → is_at other e.also ≡ b → holder_of other (front ++ left_other e ∷ back) ≡ cond b None (holder_of other (front ++ e ∷ back))
+    by true mine =
         let alone : is_at other e.place ≡ false = grind (arith, once other, mine, sum_split (times_held other) front back e) in
         let gone : holder_of other (front ++ back) ≡ None = held_elsewhere other front back e once (grind (arith, mine)) in
         grind (arith, holder_split other front back (left_other e) (once_left front back e once), alone, gone)
-    by false t =
-        let no : is_at other e.also ≡ false = ap (is_at other) held ∙ t in
-        grind (arith, no, holder_split other front back e once, holder_split other front back (left_other e) (once_left front back e once))
+    by false none = grind (arith, none, holder_split other front back e once, holder_split other front back (left_other e) (once_left front back e once))
 
--- one that held no other place stays as it was
-pub left_none : (e : Entry) → e.also ≡ None → left_other e ≡ e
-left_none e h = grind arith
-
--- an entry that goes, with its place
-pub holder_gone : (place : Place) (front back : List Entry) (e : Entry) → HeldOnce (front ++ e ∷ back) → e.also ≡ None → e.place ≡ Some place
-    → (other : Place) → holder_of other (front ++ back) ≡ cond (same_place other place) None (holder_of other (front ++ e ∷ back))
-holder_gone place front back e once alone held other = by (same_place other place) refl
+-- an entry that has left its other place, and goes from its own
+pub holder_gone : (e : Entry) (front back : List Entry) → HeldOnce (front ++ e ∷ back)
+    → (other : Place) → holder_of other (front ++ back) ≡ cond (is_at other e.place) None (holder_of other (front ++ left_other e ∷ back))
+holder_gone e front back once other = by (is_at other e.place) refl
   where
-    by : (b : Bool) → same_place other place ≡ b → holder_of other (front ++ back) ≡ cond b None (holder_of other (front ++ e ∷ back))
-    by true t = held_elsewhere other front back e once (grind (arith, ap (is_at other) held ∙ t))
-    by false t = grind (arith, alone, ap (is_at other) held ∙ t, holder_split other front back e once)
+    left : HeldOnce (front ++ left_other e ∷ back)
+    left = once_left front back e once
 
--- without one
-pub holder_none : (front back : List Entry) (e : Entry) → HeldOnce (front ++ e ∷ back) → e.also ≡ None → e.place ≡ None
-    → (other : Place) → holder_of other (front ++ back) ≡ holder_of other (front ++ e ∷ back)
-holder_none front back e once alone held other = grind (arith, alone, held, holder_split other front back e once)
+    by : (b : Bool) → is_at other e.place ≡ b → holder_of other (front ++ back) ≡ cond b None (holder_of other (front ++ left_other e ∷ back))
+    by true mine = held_elsewhere other front back (left_other e) left (grind (arith, mine))
+    by false none = grind (arith, none, holder_split other front back (left_other e) left)
 
 -- an entry in the place of another with the same key and places
 pub holder_same : (place : Place) (front back : List Entry) (e f : Entry) → f.key ≡ e.key → f.place ≡ e.place → f.also ≡ e.also
