@@ -1,6 +1,6 @@
 ghost use Rattle.std.specs.Prelude.{◌≡◌, ◌≢◌, ◌+◌, ◌^◌, ◌<◌, ◌≤◌, ◌∷◌, ◌++◌, List, length, slice_get, find, count_by, true, false, is_some, option_copied, option_to_list, Option, Some, None, IsOk, IfOk, OnOk, OnErr};
 ghost use Rattle.sr_shadow.specs.Book.{entry_for, is_registered, pending_from, placed_from, holder_of, count_of, is_clashing, standing_of, opened, reserved_for, with_changed, with_new, with_closed, with_settled, with_left, with_swept, with_retired, CanSettle, CanLeave, CanSweep, DistinctKeys, IsBook};
-ghost use Rattle.sr_shadow.specs.Entry.{holds, is_at, quiet_after, same_place};
+ghost use Rattle.sr_shadow.specs.Entry.{holds, is_at, quiet_after};
 ghost use Rattle.sr_shadow.specs.Rivals.{is_outsider, own_outside};
 ghost use Rattle.sr_shadow.specs.Shadow.{CanNote};
 ghost use Rattle.sr_shadow.specs.Taking.{Takes};

@@ -1,4 +1,4 @@
-use Rattle.std.proofs.Common.{ap, sym, subst, ◌∙◌}
+use Rattle.std.proofs.Common.{sym, subst, ◌∙◌}
 use Rattle.sr_shadow.specs.Roll.{kept, StandsFor}
 use Rattle.sr_shadow.proofs.Slots.{kept_more, kept_same}
 use Rattle.sr_shadow.proofs.roll.keep.Goals as goal

@@ -1,4 +1,4 @@
-use Rattle.std.proofs.Common.{nat_eq, ap, arith}
+use Rattle.std.proofs.Common.{nat_eq, arith}
 use Rattle.indexmap.specs.IndexMap.{get}
 use Rattle.sr_shadow.proofs.Classes.{tallied_more, tally_put}
 use Rattle.sr_shadow.proofs.rivals.Rivals.join.Goals as goal

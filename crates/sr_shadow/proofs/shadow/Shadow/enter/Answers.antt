@@ -1,4 +1,4 @@
-use Rattle.std.proofs.Common.{refl, sym, ap, ◌∙◌, false, ◌≡◌, arith}
+use Rattle.std.proofs.Common.{refl, ap, ◌∙◌, false, ◌≡◌, arith}
 use Rattle.sr_shadow.specs.Book.{is_registered}
 use Rattle.sr_shadow.proofs.Keeping.{few_entries, shadow_more}
 use Rattle.sr_shadow.proofs.shadow.Shadow.enter.Goals as goal
