@@ -44,21 +44,24 @@ impl Marks {
         }
     }
 
-    /// Makes room for at least one more mark. The Err comes for want of memory, and at 2^32 - 1 marks.
-    pub fn reserve(&mut self, alloc: Global) -> Result<(), AllocError>
+    /// Makes room for at least so many more marks. The Err comes for want of memory, and for 2^32 marks or more.
+    pub fn reserve(&mut self, alloc: Global, additional: usize) -> Result<(), AllocError>
         ensures marks { self.new.marks ≡ self.old.marks }
         ensures more { self.old.room ≤ self.new.room }
-        ensures room { OnOk result (0 < self.new.room) }
-        ensures succeeds { 0 < self.old.room → IsOk result }
+        ensures room { OnOk result (additional ≤ self.new.room) }
+        ensures succeeds { additional ≤ self.old.room → IsOk result }
     {
         let len = self.marks.len();
-        if len < self.counts.len() {
+        if additional <= self.counts.len() - len {
             return Ok(());
         }
-        if len >= MOST_MARKS {
+        if additional > MOST_MARKS - len {
             return Err(AllocError);
         }
-        let capacity = (2 * len).max(FIRST_ROOM).min(MOST_MARKS);
+        let capacity = (2 * len)
+            .max(FIRST_ROOM)
+            .min(MOST_MARKS)
+            .max(len + additional);
         self.marks.reserve(capacity - len)?;
         self.counts = Counts::of(alloc, self.marks.as_slice(), capacity)?;
         Ok(())

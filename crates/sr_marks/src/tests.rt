@@ -14,7 +14,7 @@ fn marks(alloc: Global, text: &str) -> Result<Marks, AllocError> {
 
 // One mark more, with room for it.
 fn put(alloc: Global, marks: &mut Marks, mark: bool) -> Result<(), AllocError> {
-    marks.reserve(alloc)?;
+    marks.reserve(alloc, 1)?;
     marks.push(mark);
     Ok(())
 }
