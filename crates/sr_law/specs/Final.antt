@@ -70,7 +70,7 @@ abbrev pub answer_is_held : List Line → Line → Bool
 answer_is_held all (Answer out pipe nth key verdict) = nat_le 1 nth && nat_le nth (held_count pipe all)
 answer_is_held all line = true
 
--- the first lines are there; the packets are those of the setup, each once; and answers and held openers pair
+-- the first lines are there; the packets are those of the setup, each as often as there; and answers and held openers pair
 unfoldable pub meets_final : SetupView → List Line → Bool
 meets_final setup all =
     nat_le (length setup.pools) (length all) && same_packets (packets_of all) setup.packets && all_held_answered all all && list_all (answer_is_held all) all

@@ -51,7 +51,6 @@ pub use line::Line;
 pub use opening::Opening;
 pub use pools::Pools;
 pub use setup::Setup;
-pub use std::alloc::AllocError as Memory;
 pub use sweep::Sweep;
 pub use taking::Taking;
 pub use verdict::{HeldBy, Verdict};

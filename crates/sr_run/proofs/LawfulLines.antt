@@ -2,6 +2,7 @@
 use Rattle.std.proofs.Common.{◌≡◌, ℕ, zero, suc, ◌+◌, ◌<◌, ◌≤◌, Bool, true, false, cond, not, ◌||◌, ◌&&◌, ◌==◌, List, [], ◌∷◌, ◌++◌, length, take, drop, reverse, Option, Some, None, refl, sym, ap, ◌∙◌, subst, append_assoc, append-nil, Result, Ok, Err, arith}
 use Rattle.std.specs.Prelude.{slice_get, slice_index, nat_le, nat_lt, option_map, count_by}
 use Rattle.std.specs.List.{range_with_len, list_any, list_all}
+use Rattle.std.specs.Option.{option_or}
 use Rattle.std.proofs.lemmas.List.{reverse-append}
 use Rattle.std.proofs.lemmas.List.FromFn.{get_or-range_with_len, length-range_with_len}
 use Rattle.std.proofs.lemmas.List.Sums.{sum_by-append, sum_by-cons}
@@ -22,7 +23,7 @@ use Rattle.sr_law.specs.Groups.{keeps_groups}
 use Rattle.sr_law.specs.Lawful.{broken, IsLawful, NoLineBreaks}
 use Rattle.sr_law.specs.Newer.{last_switched, is_new_pool, meets_newer}
 use Rattle.sr_law.specs.Number.{meets_number}
-use Rattle.sr_law.specs.Opening.{opening, is_open, opened_by, opened_first}
+use Rattle.sr_law.specs.Opening.{opening, is_open, opened_by}
 use Rattle.sr_law.specs.Order.{meets_order}
 use Rattle.sr_law.specs.Pools.{pool_of, server_of, picked}
 use Rattle.sr_law.specs.Ranges.{in_range}
@@ -71,7 +72,7 @@ earlier_more : (tick later : ℕ) (before : List Line) → tick ≤ later → Al
 earlier_more tick later [] le early = tt
 earlier_more tick later (line ∷ before) le early = (omega arith, omega arith, earlier_more tick later before le early.2)
 
-first_of : (a b : Option Opening) → HasPoolOne a → HasPoolOne b → HasPoolOne (opened_first a b)
+first_of : (a b : Option Opening) → HasPoolOne a → HasPoolOne b → HasPoolOne (option_or a b)
 first_of None b first second = second
 first_of (Some o) b first second = first
 
