@@ -38,8 +38,6 @@ mod sweep;
 mod sweeps;
 mod taking;
 mod takings;
-#[cfg(test)]
-mod tests;
 mod ticks;
 mod verdict;
 

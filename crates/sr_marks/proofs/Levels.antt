@@ -1,5 +1,5 @@
 -- The levels over a list of counts.
-use Rattle.std.proofs.Common.{◌≡◌, ℕ, zero, suc, ◌+◌, ◌-◌, ◌≤◌, List, [], length, refl, ◌∙◌, arith, add-one}
+use Rattle.std.proofs.Common.{◌≡◌, ℕ, zero, suc, ◌+◌, ◌≤◌, List, [], length, refl, ◌∙◌, arith, add-one}
 use Rattle.sr_marks.specs.Counts.{total, pairs, level_of, AreLevels}
 use Rattle.sr_marks.proofs.Pairing.{total-pairs, length-pairs}
 

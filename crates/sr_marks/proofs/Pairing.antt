@@ -1,5 +1,5 @@
 -- Sums of neighbours: what they keep, entry by entry.
-use Rattle.std.proofs.Common.{◌≡◌, ℕ, zero, suc, ◌+◌, ◌-◌, ◌*◌, ◌/◌, ◌<◌, ◌≤◌, List, [], ◌∷◌, length, get_or, ◌++◌, take, set, ap, refl, ◌∙◌, arith, add-one}
+use Rattle.std.proofs.Common.{◌≡◌, ℕ, zero, suc, ◌+◌, ◌*◌, ◌/◌, ◌<◌, ◌≤◌, List, [], ◌∷◌, length, get_or, ◌++◌, take, set, ap, refl, ◌∙◌, arith, add-one}
 use Rattle.std.proofs.lemmas.List.{take_more, take_all}
 use Rattle.sr_marks.specs.Counts.{total, total_before, pairs}
 

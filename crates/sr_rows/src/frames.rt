@@ -1,5 +1,5 @@
 //! Hostile records and frames.
-use crate::bytes::{HEADER, capture, with_byte};
+use crate::bytes::{HEADER, SYN, capture, with_byte};
 use crate::play::{HEAD, OPENED, play, row_of};
 use sr_run::{CaptureRefusal, Status};
 use std::alloc::{AllocError, Global};
@@ -11,6 +11,12 @@ const SHORT: &[u8] = b"silkroad 1\nskip 1 short\ngive 1 0 0 1\n";
 const FRAGMENT: &[u8] = b"silkroad 1\nskip 1 fragment\ngive 1 0 0 1\n";
 
 const NOT_IPV4: &[u8] = b"silkroad 1\nskip 1 notipv4\ngive 1 0 0 1\n";
+
+const NOT_VIP: &[u8] = b"silkroad 1\nskip 1 notvip\ngive 1 0 0 1\n";
+
+const CARRIED: &[u8] = b"silkroad 1\ngive 1 0 0 1\npacket 1 2 3 0 0/10.0.0.9:4000 data to 0 0 1\n";
+
+const ENDED: &[u8] = b"silkroad 1\ngive 1 0 0 1\npacket 1 2 3 0 0/10.0.0.9:4000 end to 0 0 1\n";
 
 // What is printed of a SYN with another byte at this place.
 fn printed<R: Threads + Sync>(
@@ -25,7 +31,7 @@ fn printed<R: Threads + Sync>(
 
 #[test]
 fn other_bytes(rt: HostRuntime) -> Result<(), Fail> {
-    let rows: [(usize, u8, &[u8]); 8] = [
+    let rows: [(usize, u8, &[u8]); 13] = [
         (0, 0x4f, SHORT),
         (0, 0x44, SHORT),
         (3, 19, SHORT),
@@ -34,6 +40,11 @@ fn other_bytes(rt: HostRuntime) -> Result<(), Fail> {
         (6, 0x20, OPENED),
         (0, 0x65, NOT_IPV4),
         (3, 33, SHORT),
+        (3, 34, OPENED),
+        (23, 81, NOT_VIP),
+        (33, 18, CARRIED),
+        (33, 17, ENDED),
+        (33, 6, ENDED),
     ];
     for (at, byte, output) in rows {
         let bytes = printed(&rt, rt.alloc(), at, byte)?;
@@ -52,6 +63,30 @@ fn zeros(alloc: Global, length: u32, size: usize) -> Result<Vec<u8>, AllocError>
         bytes.push(0)?;
     }
     Ok(bytes)
+}
+
+#[test]
+fn front_of_a_segment(rt: HostRuntime) -> Result<(), Fail> {
+    for (size, output) in [(33, SHORT), (34, OPENED)] {
+        let mut input = zeros(rt.alloc(), size, 0)?;
+        input.extend_from_slice(&SYN[..size as usize])?;
+        let played = play(&rt, rt.alloc(), row_of(&input, 4096))?;
+        assert_eq!(rt; played.output.as_slice(), output, "{size} bytes");
+    }
+    Ok(())
+}
+
+#[test]
+fn zeros_over_ethernet(rt: HostRuntime) -> Result<(), Fail> {
+    for (size, output) in [(13, SHORT), (14, NOT_IPV4)] {
+        let mut input = zeros(rt.alloc(), size, size as usize)?;
+        if input.len() > 20 {
+            input[20] = 1;
+        }
+        let played = play(&rt, rt.alloc(), row_of(&input, 4096))?;
+        assert_eq!(rt; played.output.as_slice(), output, "{size} bytes");
+    }
+    Ok(())
 }
 
 #[test]

@@ -1,5 +1,5 @@
 -- The indexes stay those of the entries.
-use Rattle.std.proofs.Common.{◌≡◌, ℕ, zero, suc, ◌+◌, ◌^◌, ◌<◌, ◌≤◌, Bool, true, false, List, [], ◌∷◌, ◌++◌, length, drop, Option, None, Some, is_some, refl, sym, ap, subst, true≢false, arith}
+use Rattle.std.proofs.Common.{◌≡◌, ℕ, zero, suc, ◌+◌, ◌^◌, ◌<◌, ◌≤◌, min, Bool, true, false, List, [], ◌∷◌, ◌++◌, length, drop, Option, None, Some, is_some, refl, sym, ap, subst, true≢false, arith}
 use Rattle.std.specs.Prelude.{slice_get, option_to_list}
 use Rattle.sr_base.specs.Key.{KeyView, IsKey}
 use Rattle.sr_base.specs.Layout.{LayoutView}
@@ -144,6 +144,16 @@ scan_on place (e ∷ es) (suc i) h = scan_on place es i h
 pub room_more : (ready : Option KeyView) (a b c d e f g h : ℕ) → a ≤ e → b ≤ f → c ≤ g → d ≤ h → HasRoom ready a b c d → HasRoom ready e f g h
 room_more None a b c d e f g h p q r s room = tt
 room_more (Some key) a b c d e f g h p q r s room = (omega (arith, p, room.0), omega (arith, q, room.1), omega (arith, r, room.2), omega (arith, s, room.3))
+
+-- of more room than for one so much stays as is asked for
+pub room_kept : (ready : Option KeyView) (more a b c d e f g h : ℕ) → 0 < more → min more a ≤ e → b ≤ f → c ≤ g → d ≤ h → HasRoom ready a b c d → HasRoom ready e f g h
+room_kept None more a b c d e f g h some p q r s room = tt
+room_kept (Some key) more a b c d e f g h some p q r s room = (omega (arith, p, room.0), omega (arith, q, room.1), omega (arith, r, room.2), omega (arith, s, room.3))
+
+-- room for two is room for one once the first is in
+pub room_left : (ready : Option KeyView) (a b c d e f g h : ℕ) → 2 ≤ a → 2 ≤ b → 2 ≤ c → 2 ≤ d → a ≤ e + 1 → b ≤ f + 1 → c ≤ g + 1 → d ≤ h + 1 → HasRoom ready e f g h
+room_left None a b c d e f g h p q r s t u v w = tt
+room_left (Some key) a b c d e f g h p q r s t u v w = (omega (arith, p, t), omega (arith, q, u), omega (arith, r, v), omega (arith, s, w))
 
 -- books with equal parts
 pub book_is : (l : LayoutView) (r : Option KeyView) (es fs : List Entry) (t u : ℕ) → es ≡ fs → t ≡ u

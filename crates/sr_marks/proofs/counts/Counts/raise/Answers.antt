@@ -1,4 +1,4 @@
-use Rattle.std.proofs.Common.{◌≡◌, ◌+◌, ◌-◌, [], length, get_or, set, ap, refl, ◌∙◌, arith}
+use Rattle.std.proofs.Common.{◌≡◌, ◌+◌, [], length, get_or, set, ap, refl, ◌∙◌, arith}
 use Rattle.std.proofs.lemmas.List.{get_or_read}
 use Rattle.sr_marks.specs.Counts.{total, lowest}
 use Rattle.sr_marks.proofs.Walks.{changing_none, changing-within, changing-some, changing_more, changing_all, changing_is, some_level}

@@ -1,4 +1,4 @@
-use Rattle.std.proofs.Common.{◌+◌, ◌-◌, length, get_or, set}
+use Rattle.std.proofs.Common.{◌+◌, length, get_or, set}
 use Rattle.sr_marks.specs.Counts.{lowest}
 use Rattle.sr_marks.proofs.Walks.{Changing}
 use Rattle.sr_marks.proofs.counts.Counts.raise.Given as goal
