@@ -1,5 +1,5 @@
--- A key as its parts, and as a number.
-use Rattle.std.specs.Prelude.{ℕ, ◌+◌, ◌*◌, ◌^◌, ◌<◌}
+-- A key as its parts, and as a number; and when two keys are one.
+use Rattle.std.specs.Prelude.{ℕ, ◌+◌, ◌*◌, ◌^◌, ◌<◌, Bool, ◌&&◌, ◌==◌}
 use Rattle.sr_base.specs.Fields.{bits}
 
 -- the client's side of a connection to a virtual address
@@ -21,3 +21,7 @@ pub record IsKey (k : KeyView) : Type 0 where
 -- the key in the lowest 52 bits
 abbrev pub key_of : ℕ → KeyView
 key_of word = record { vip = bits 48 4 word; ip = bits 16 32 word; port = bits 0 16 word }
+
+-- two keys are one
+abbrev pub same_key : KeyView → KeyView → Bool
+same_key a b = (a.vip == b.vip) && ((a.ip == b.ip) && (a.port == b.port))

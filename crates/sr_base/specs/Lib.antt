@@ -3,6 +3,7 @@ pub mod FullWord
 pub mod Key
 pub mod Layout
 pub mod Limit
+pub mod Place
 pub mod RingWord
 pub mod RowHead
 pub mod SlotWord

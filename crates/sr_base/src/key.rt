@@ -1,5 +1,5 @@
 ghost use Rattle.std.specs.Prelude.{◌≡◌, ℕ, ◌*◌, ◌^◌, ◌<◌, ◌≤◌, MatchOption, Some};
-ghost use Rattle.sr_base.specs.Key.{IsKey, KeyView, key_of, packed};
+ghost use Rattle.sr_base.specs.Key.{IsKey, KeyView, key_of, packed, same_key};
 
 use std::marker::Model;
 
@@ -34,6 +34,13 @@ impl Key {
         } else {
             None
         }
+    }
+
+    /// Whether the two keys are one.
+    pub fn same(self, other: Key) -> bool
+        ensures { result ≡ same_key self other }
+    {
+        self.vip == other.vip && self.ip == other.ip && self.port == other.port
     }
 
     /// The key as a number of 52 bits: the virtual address in bits 48 to 51, the client's address in bits 16 to 47, its port in bits 0 to 15.

@@ -50,6 +50,10 @@ impl Book {
         Ok(Book { shadow })
     }
 
+    pub(crate) fn reserve(&mut self, alloc: Global, key: Key) -> Result<(), AllocError> {
+        self.shadow.reserve(alloc, key)
+    }
+
     /// Whether the key is new; None where the version is none.
     pub(crate) fn take(
         &mut self,

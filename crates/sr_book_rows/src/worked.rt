@@ -1,4 +1,4 @@
-//! A repeated take, and calls with an unknown key.
+//! A repeated take, calls with an unknown key, and room that is made for a key.
 use crate::small::{Book, client, small_layout};
 use sr_base::Layout;
 use std::alloc::{AllocError, Global};
@@ -47,5 +47,35 @@ fn a_repeated_take_keeps_the_version(rt: HostRuntime) -> Result<(), Fail> {
         registered: 1,
     };
     assert_eq!(rt; told_of(rt.alloc(), &layout)?, expected);
+    Ok(())
+}
+
+// Room is made for a key, another key is taken, and then the key itself: whether each was new, and how many are registered.
+fn taken_beside(
+    alloc: Global,
+    book: &mut Book,
+) -> Result<(Option<bool>, Option<bool>, usize), AllocError> {
+    book.reserve(alloc, client(4000))?;
+    let other = book.take(alloc, client(4001), 0)?;
+    let own = book.take(alloc, client(4000), 0)?;
+    Ok((other, own, book.len()))
+}
+
+// The same of a new book.
+fn taken_beside_of(
+    alloc: Global,
+    layout: &Layout,
+) -> Result<(Option<bool>, Option<bool>, usize), AllocError> {
+    let mut book = Book::new(alloc, layout)?;
+    taken_beside(alloc, &mut book)
+}
+
+#[test]
+fn room_for_a_key_stays(rt: HostRuntime) -> Result<(), Fail> {
+    let layout = small_layout().expect(&rt, "a layout");
+    assert_eq!(rt;
+        taken_beside_of(rt.alloc(), &layout)?,
+        (Some(true), Some(true), 2)
+    );
     Ok(())
 }

@@ -16,6 +16,3 @@ mod vip;
 pub use frame::read;
 pub use seen::Seen;
 pub use skip::Skip;
-
-#[cfg(test)]
-mod tests;

@@ -3,6 +3,10 @@ use Rattle.std.specs.Prelude.{ℕ, zero, suc, ◌+◌, List, [], ◌++◌}
 use Rattle.byteorder.specs.Endian.{little_bytes}
 use Rattle.sr_gen.specs.Record.{record_of}
 
+-- the most packets that a capture is made of
+abbrev pub most_packets : ℕ
+most_packets = 4194304
+
 -- the header of a classic capture in microseconds, the lowest byte of each number first: magic, version 2.4, zone, significant figures,
 -- snap length, and the link type of raw IP
 abbrev pub capture_header : List ℕ

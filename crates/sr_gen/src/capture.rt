@@ -1,5 +1,5 @@
 ghost use Rattle.std.specs.Prelude.{◌≡◌, ◌≤◌};
-ghost use Rattle.sr_gen.specs.Capture.{capture_of, records_from};
+ghost use Rattle.sr_gen.specs.Capture.{most_packets, capture_of, records_from};
 ghost use Rattle.sr_io.specs.Faults.{Rose};
 ghost use Rattle.sr_io.specs.Sink.{Puts};
 ghost use Rattle.sr_io.specs.declared.sink.Put.TheVariants.{Failed};
@@ -18,7 +18,7 @@ const HEADER: [u8; 24] = [
 #[tactic(auto, unfolding(crate::specs::Capture::capture_of))]
 pub fn make<K: Sink>(number: u64, packets: u32, sink: &mut K) -> Put
     requires some { 1 ≤ packets }
-    requires few { packets ≤ 4194304 }
+    requires few { packets ≤ most_packets }
     ensures bytes { Puts result (K.taken sink.old) (K.taken sink.new) (capture_of number packets) }
     ensures count { K.faults sink.old ≤ K.faults sink.new }
     ensures failed { result ≡ Failed → Rose (K.faults sink.old) (K.faults sink.new) }
@@ -31,7 +31,7 @@ pub fn make<K: Sink>(number: u64, packets: u32, sink: &mut K) -> Put
 
 // Writes the packets' records.
 fn write_records<K: Sink>(number: u64, packets: u32, sink: &mut K) -> Put
-    requires { packets ≤ 4194304 }
+    requires { packets ≤ most_packets }
     ensures bytes { Puts result (K.taken sink.old) (K.taken sink.new) (records_from number 0 packets) }
     ensures count { K.faults sink.old ≤ K.faults sink.new }
     ensures failed { result ≡ Failed → Rose (K.faults sink.old) (K.faults sink.new) }

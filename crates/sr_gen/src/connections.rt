@@ -14,6 +14,7 @@ pub struct Connections {
 }
 
 impl Connections {
+    ghost use Rattle.sr_gen.specs.Capture.{most_packets};
     ghost use Rattle.sr_gen.specs.Connection.{connection_of};
     ghost use Rattle.sr_gen.specs.Connections.{ready, StandsAt};
     ghost use Rattle.sr_gen.specs.Turns.{connection_number};
@@ -31,7 +32,7 @@ impl Connections {
 
     /// The connection of packet `t`, from 0, once those of all packets before it were taken.
     pub fn take(&mut self, t: u32) -> Connection
-        requires { t < 4194304 }
+        requires { t < most_packets }
         ensures connection { (number : ℕ) → StandsAt number t self.old → result ≡ connection_of number (connection_number t) }
         ensures after { (number : ℕ) → StandsAt number t self.old → StandsAt number (t + 1) self.new }
     {

@@ -20,6 +20,3 @@ mod turns;
 
 pub use capture::make;
 pub use generator::Generator;
-
-#[cfg(test)]
-mod tests;

@@ -1,4 +1,5 @@
 ghost use Rattle.std.specs.Prelude.{◌≡◌, ◌<◌};
+ghost use Rattle.sr_gen.specs.Capture.{most_packets};
 ghost use Rattle.sr_gen.specs.Record.{flags_of, record_with};
 
 use crate::connection::Connection;
@@ -24,7 +25,7 @@ const FIN_ACK: u8 = 0x11;
 /// The record of packet `t`, from 0, of this connection.
 #[tactic(auto, unfolding(crate::specs::Record::record_with))]
 pub fn record(t: u32, connection: Connection) -> [u8; LENGTH]
-    requires { t < 4194304 }
+    requires { t < most_packets }
     ensures { result ≡ record_with t connection }
 {
     let microseconds = t * 100;

@@ -1,8 +1,7 @@
 ghost use Rattle.std.specs.Prelude.{◌≡◌, ◌≤◌, [], ◌++◌, length, IfOk};
 ghost use Rattle.sr_io.specs.BoundedBytes.{room_left};
 
-use crate::Memory;
-use std::alloc::Global;
+use std::alloc::{AllocError, Global};
 use std::marker::Model;
 
 /// Bytes of which there is room for so many.
@@ -24,13 +23,15 @@ impl Model for BoundedBytes {
 }
 
 impl BoundedBytes {
-    pub fn new(alloc: Global, room: usize) -> Result<BoundedBytes, Memory>
+    /// No bytes, and room for so many.
+    pub fn new(alloc: Global, room: usize) -> Result<BoundedBytes, AllocError>
         ensures { IfOk result (λ b. b ≡ record { bytes = []; room = room }) }
     {
         let bytes = Vec::with_capacity(alloc, room)?;
         Ok(BoundedBytes { bytes, room })
     }
 
+    /// The bytes that were put.
     pub fn bytes(&self) -> &[u8]
         ensures { result.now ≡ self.now.bytes }
     {

@@ -14,6 +14,7 @@ pub struct FileShelf<'a, R> {
 }
 
 impl<'a, R: Files> FileShelf<'a, R> {
+    /// The files of this runtime; no fault yet.
     pub fn new(files: &'a R) -> FileShelf<'a, R>
         ensures { result ≡ record { files = files.entry; faults = 0 } }
     {

@@ -36,7 +36,6 @@ pub use read_source::ReadSource;
 pub use shelf::{FetchRefusal, Shelf};
 pub use sink::{Put, Sink};
 pub use source::{Got, Source};
-pub use std::alloc::AllocError as Memory;
 pub use sure_shelf::SureShelf;
 pub use sure_sink::SureSink;
 pub use sure_source::SureSource;

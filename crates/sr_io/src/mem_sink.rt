@@ -6,8 +6,8 @@ ghost use Rattle.sr_io.specs.declared.sink.Put.TheVariants.{Failed};
 
 use crate::bounded_bytes::BoundedBytes;
 use crate::calls::Calls;
-use crate::{Memory, Put, Sink};
-use std::alloc::Global;
+use crate::{Put, Sink};
+use std::alloc::{AllocError, Global};
 use std::marker::Model;
 
 /// A sink in memory some calls of which fail. Writes and flushes are numbered together.
@@ -27,7 +27,7 @@ impl Model for MemSink {
 
 impl MemSink {
     /// Nothing was taken, and there is room for so many bytes. The calls with the numbers `fails`, from 1, fail.
-    pub fn new(alloc: Global, room: usize, fails: Vec<u64>) -> Result<MemSink, Memory>
+    pub fn new(alloc: Global, room: usize, fails: Vec<u64>) -> Result<MemSink, AllocError>
         ensures { IfOk result (λ s. s ≡ record { bytes = []; room = room; calls = record { fails = fails.items; made = 0; faults = 0 } }) }
     {
         let taken = BoundedBytes::new(alloc, room)?;

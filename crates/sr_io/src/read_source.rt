@@ -1,4 +1,5 @@
-ghost use Rattle.std.specs.Prelude.{◌≡◌, ℕ, ◌<◌, ◌≤◌, List, length, None, Some};
+ghost use Rattle.std.specs.Prelude.{◌≡◌, ◌<◌, ◌≤◌, length, None};
+ghost use Rattle.std.specs.Option.{ForSome};
 ghost use Rattle.std.specs.Io.{ReadsAtMost};
 ghost use Rattle.std.specs.Io.KnownBytes.{ReadConsumes};
 ghost use Rattle.sr_io.specs.Faults.{Rose};
@@ -19,6 +20,7 @@ pub struct ReadSource<R> {
 }
 
 impl<R: Read> ReadSource<R> {
+    /// This reader; no fault yet.
     pub fn new(reader: R) -> ReadSource<R>
         ensures { result ≡ record { reader = reader; faults = 0 } }
     {
@@ -55,7 +57,7 @@ impl<R: Read> Source for ReadSource<R> {
         ensures within { IsWithin result (length into.new) }
         ensures count { self.old.faults ≤ self.new.faults }
         ensures failed { result ≡ Failed → Rose self.old.faults self.new.faults }
-        ensures reader { (xs : List ℕ) → R.remaining self.old.reader ≡ Some xs → Takes result xs into.new (R.remaining self.new.reader) }
+        ensures reader { ForSome (R.remaining self.old.reader) (λ xs. Takes result xs into.new (R.remaining self.new.reader)) }
     {
         match read_retried(&mut self.reader, into) {
             Ok(0) => Got::End,

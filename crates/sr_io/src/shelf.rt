@@ -1,4 +1,5 @@
 ghost use Rattle.std.specs.Prelude.{◌≡◌, ℕ, ◌≤◌, List, Option, Some};
+ghost use Rattle.std.specs.Option.{ForSome};
 ghost use Rattle.sr_io.specs.Faults.{Rose};
 ghost use Rattle.sr_io.specs.Shelf.{Fetches, FetchFailed};
 
@@ -25,8 +26,8 @@ pub trait Shelf {
 
     /// The text of a name, of at most `limit` bytes.
     fn fetch(&mut self, alloc: Global, name: &str, limit: usize) -> Result<Vec<u8>, FetchRefusal>
-        ensures text { (told : List ℕ → Option (List ℕ)) → texts self.old ≡ Some told → Fetches (λ v. v.items) result (told name.now) limit }
-        ensures same { (told : List ℕ → Option (List ℕ)) → texts self.old ≡ Some told → texts self.new ≡ Some told }
+        ensures text { ForSome (texts self.old) (λ told. Fetches (λ v. v.items) result (told name.now) limit) }
+        ensures same { ForSome (texts self.old) (λ told. texts self.new ≡ Some told) }
         ensures count { faults self.old ≤ faults self.new }
         ensures failed { FetchFailed result → Rose (faults self.old) (faults self.new) };
 }

@@ -1,4 +1,5 @@
-ghost use Rattle.std.specs.Prelude.{◌≡◌, ℕ, ◌<◌, ◌≤◌, List, length, Option, Some};
+ghost use Rattle.std.specs.Prelude.{◌≡◌, ℕ, ◌<◌, ◌≤◌, List, length, Option};
+ghost use Rattle.std.specs.Option.{ForSome};
 ghost use Rattle.sr_io.specs.Faults.{Rose};
 ghost use Rattle.sr_io.specs.Source.{IsWithin, Takes};
 ghost use Rattle.sr_io.specs.declared.source.Got.TheVariants.{Failed};
@@ -26,7 +27,7 @@ pub trait Source {
     fn read(&mut self, into: &mut [u8]) -> Got
         requires { 0 < length into.old }
         ensures within { IsWithin result (length into.new) }
-        ensures bytes { (xs : List ℕ) → left self.old ≡ Some xs → Takes result xs into.new (left self.new) }
+        ensures bytes { ForSome (left self.old) (λ xs. Takes result xs into.new (left self.new)) }
         ensures count { faults self.old ≤ faults self.new }
         ensures failed { result ≡ Failed → Rose (faults self.old) (faults self.new) };
 }

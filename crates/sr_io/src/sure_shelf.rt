@@ -22,6 +22,7 @@ impl Model for SureShelf {
 }
 
 impl SureShelf {
+    /// This text under every name.
     pub fn new(text: Vec<u8>) -> SureShelf
         ensures { result ≡ text.items }
     {

@@ -4,8 +4,8 @@ ghost use Rattle.sr_io.specs.SureSink.{told_of, after_write};
 ghost use Rattle.sr_io.specs.declared.sink.Put.TheVariants.{All};
 
 use crate::bounded_bytes::BoundedBytes;
-use crate::{Memory, Put, Sink};
-use std::alloc::Global;
+use crate::{Put, Sink};
+use std::alloc::{AllocError, Global};
 use std::marker::Model;
 
 /// A sink in memory that never fails. Once a write finds too little room it takes nothing more, and tells its bytes no longer.
@@ -25,7 +25,7 @@ impl Model for SureSink {
 
 impl SureSink {
     /// Nothing was taken, and there is room for so many bytes.
-    pub fn new(alloc: Global, room: usize) -> Result<SureSink, Memory>
+    pub fn new(alloc: Global, room: usize) -> Result<SureSink, AllocError>
         ensures { IfOk result (λ s. s ≡ record { bytes = []; room = room; over = false }) }
     {
         let taken = BoundedBytes::new(alloc, room)?;

@@ -1,5 +1,6 @@
 //! The law of what never fails: over it no call answers a fault. It is proved from what the traits say alone, by the count of faults.
-ghost use Rattle.std.specs.Prelude.{◌≡◌, ◌≢◌, ℕ, ◌<◌, List, length, Option, Some};
+ghost use Rattle.std.specs.Prelude.{◌≡◌, ◌≢◌, ◌<◌, length, Some};
+ghost use Rattle.std.specs.Option.{ForSome};
 ghost use Rattle.sr_io.specs.Faults.{Rose};
 ghost use Rattle.sr_io.specs.Shelf.{Fetches, FetchFailed};
 ghost use Rattle.sr_io.specs.Sink.{Puts, Adds};
@@ -13,7 +14,7 @@ use std::alloc::Global;
 fn read_any<S: Source>(source: &mut S, into: &mut [u8]) -> Got
     requires { 0 < length into.old }
     ensures within { IsWithin result (length into.new) }
-    ensures bytes { (xs : List ℕ) → S.left source.old ≡ Some xs → Takes result xs into.new (S.left source.new) }
+    ensures bytes { ForSome (S.left source.old) (λ xs. Takes result xs into.new (S.left source.new)) }
     ensures failed { result ≡ Got.Failed → Rose (S.faults source.old) (S.faults source.new) }
 {
     source.read(into)
@@ -26,7 +27,7 @@ fn fetch_any<F: Shelf>(
     name: &str,
     limit: usize,
 ) -> Result<Vec<u8>, FetchRefusal>
-    ensures text { (told : List ℕ → Option (List ℕ)) → F.texts shelf.old ≡ Some told → Fetches (λ v. v.items) result (told name.now) limit }
+    ensures text { ForSome (F.texts shelf.old) (λ told. Fetches (λ v. v.items) result (told name.now) limit) }
     ensures failed { FetchFailed result → Rose (F.faults shelf.old) (F.faults shelf.new) }
 {
     shelf.fetch(alloc, name, limit)

@@ -1,9 +1,9 @@
 -- Same and Server together give one server: that of the opening.
-use Rattle.std.proofs.Common.{◌≡◌, ℕ, ◌<◌, true, ◌&&◌, cond, List, [], ◌∷◌, Option, Some, None, sym, ◌∙◌, ap, subst, inl, inr, arith}
+use Rattle.std.proofs.Common.{◌≡◌, ℕ, ◌<◌, true, cond, List, [], ◌∷◌, Option, Some, None, sym, ◌∙◌, ap, subst, inl, inr, arith}
 use Rattle.std.specs.Prelude.{nat_eq, nat_le}
 use Rattle.std.proofs.lemmas.Bool.{and_parts, or_cases, eqb-true, leb-true, cases_Bool, false≢true}
 use Rattle.std.proofs.lemmas.Option.{none-some, same_Some}
-use Rattle.sr_base.specs.Key.{KeyView}
+use Rattle.sr_base.specs.Key.{KeyView, same_key}
 use Rattle.sr_base.specs.declared.kind.Kind.TheVariants.{Opener}
 use Rattle.sr_law.specs.declared.line.Line.{Line}
 use Rattle.sr_law.specs.declared.line.Line.TheVariants.{Packet, Answer}
@@ -13,23 +13,11 @@ use Rattle.sr_law.specs.declared.choice.Choice.{Choice}
 use Rattle.sr_law.specs.declared.opening.Opening.{Opening}
 use Rattle.sr_law.specs.Pools.{VipPools, server_of}
 use Rattle.sr_law.specs.Ticks.{start_of, choice_of, chosen}
-use Rattle.sr_law.specs.Keys.{same_key}
 use Rattle.sr_law.specs.Opening.{opened, opened_by, retires, opened_first, opening}
 use Rattle.sr_law.specs.Same.{keeps_pool, keeps_choice, meets_same}
 use Rattle.sr_law.specs.Given.{has_pool, last_version}
 use Rattle.sr_law.specs.Server.{is_number, is_right_choice, meets_server, all_meet_server}
-
--- what the test of two keys says
-pub same_key-true : (a b : KeyView) → same_key a b ≡ true → a ≡ b
-same_key-true a b e =
-    let parts = and_parts (nat_eq a.vip b.vip && nat_eq a.ip b.ip) (nat_eq a.port b.port) e in
-    let first = and_parts (nat_eq a.vip b.vip) (nat_eq a.ip b.ip) parts.0 in
-    same_fields a b (eqb-true a.vip b.vip first.0) (eqb-true a.ip b.ip first.1) (eqb-true a.port b.port parts.1)
-  where
-    same_fields : (x y : KeyView) → x.vip ≡ y.vip → x.ip ≡ y.ip → x.port ≡ y.port → x ≡ y
-    same_fields x y p q r =
-        let key : ℕ → ℕ → ℕ → KeyView = λ v i n. record { vip = v; ip = i; port = n } in
-        ap (λ v. key v x.ip x.port) p ∙ ap (λ i. key y.vip i x.port) q ∙ ap (λ n. key y.vip y.ip n) r
+use Rattle.sr_base.proofs.Sameness.{same_key-true}
 
 -- there is a number, so it is this one
 pub is_number-true : (o : Option ℕ) (n : ℕ) → is_number o n ≡ true → o ≡ Some n

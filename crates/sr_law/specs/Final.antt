@@ -2,7 +2,7 @@
 -- newest line first, as the lines before a line are.
 use Rattle.std.specs.Prelude.{ℕ, ◌+◌, Bool, true, false, ◌&&◌, ◌==◌, nat_lt, nat_le, List, [], ◌∷◌, ◌++◌, length, count_by}
 use Rattle.std.specs.List.{list_any, list_all}
-use Rattle.sr_base.specs.Key.{KeyView}
+use Rattle.sr_base.specs.Key.{KeyView, same_key}
 use Rattle.sr_base.specs.declared.kind.Kind.{Kind}
 use Rattle.sr_base.specs.declared.kind.Kind.TheVariants.{Opener, Carry, Ending}
 use Rattle.sr_base.specs.declared.packet.Packet.{Packet}
@@ -10,7 +10,6 @@ use Rattle.sr_law.specs.declared.line.Line.{Line}
 use Rattle.sr_law.specs.declared.line.Line.TheVariants.{Packet as PacketLine, Answer}
 use Rattle.sr_law.specs.declared.verdict.Verdict.TheVariants.{Held}
 use Rattle.sr_law.specs.Full.{held_count}
-use Rattle.sr_law.specs.Keys.{same_key}
 use Rattle.sr_law.specs.Setup.{SetupView}
 
 -- the packet that a line tells of

@@ -1,7 +1,8 @@
 -- Cause, in part: why an opener was held. These causes are this project's own, but for the filter (SilkRoad, SIGCOMM 2017: TransitTable).
 use Rattle.std.specs.Prelude.{ℕ, Bool, false, not, ◌&&◌, ◌||◌, ◌==◌, nat_lt, if◌then◌else◌, List, [], ◌∷◌, Option, Some, None}
 use Rattle.std.specs.List.{list_any, list_all}
-use Rattle.sr_base.specs.Key.{KeyView}
+use Rattle.sr_base.specs.Key.{KeyView, same_key}
+use Rattle.sr_base.specs.Place.{same_place}
 use Rattle.sr_base.specs.declared.shape.Shape.{Shape}
 use Rattle.sr_base.specs.declared.place.Place.{Place}
 use Rattle.sr_base.specs.declared.place.Place.TheVariants.{Slot, Row}
@@ -12,7 +13,7 @@ use Rattle.sr_law.specs.declared.verdict.Verdict.TheVariants.{To}
 use Rattle.sr_law.specs.declared.giving.Giving.{Giving}
 use Rattle.sr_hash.specs.Uses.{bloom_places_of}
 use Rattle.sr_law.specs.Given.{last_given, has_pool}
-use Rattle.sr_law.specs.Keys.{same_key, same_place, clashes_in}
+use Rattle.sr_law.specs.Keys.{clashes_in}
 
 -- a packet of this key matches the other key's entry at this place: in a row it is the same key, in a slot the two clash
 abbrev pub matches_entry : Shape → KeyView → KeyView → Place → Bool

@@ -1,13 +1,12 @@
 -- The opening of a connection: the line that first sent it to a server, since it was last retired.
 use Rattle.std.specs.Prelude.{ℕ, Bool, false, if◌then◌else◌, List, [], ◌∷◌, Option, Some, None, is_some}
-use Rattle.sr_base.specs.Key.{KeyView}
+use Rattle.sr_base.specs.Key.{KeyView, same_key}
 use Rattle.sr_base.specs.declared.kind.Kind.TheVariants.{Opener}
 use Rattle.sr_law.specs.declared.line.Line.{Line}
 use Rattle.sr_law.specs.declared.line.Line.TheVariants.{Packet, Answer, Retired}
 use Rattle.sr_law.specs.declared.verdict.Verdict.{Verdict}
 use Rattle.sr_law.specs.declared.verdict.Verdict.TheVariants.{To}
 use Rattle.sr_law.specs.declared.opening.Opening.{Opening}
-use Rattle.sr_law.specs.Keys.{same_key}
 
 -- the opening that a line of this verdict and tick makes
 abbrev pub opened : ℕ → Verdict → Option Opening

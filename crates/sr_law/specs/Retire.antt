@@ -1,13 +1,12 @@
 -- Retire: a connection is over only after it was quiet for so many sweeps, or for one where it sent an end.
 use Rattle.std.specs.Prelude.{ℕ, ◌+◌, ◌-◌, Bool, true, false, not, ◌&&◌, ◌||◌, ◌==◌, nat_lt, nat_le, if◌then◌else◌, List, [], ◌∷◌, ◌++◌, Option, Some, None}
 use Rattle.std.specs.List.{list_any}
-use Rattle.sr_base.specs.Key.{KeyView}
+use Rattle.sr_base.specs.Key.{KeyView, same_key}
 use Rattle.sr_base.specs.declared.kind.Kind.{Kind}
 use Rattle.sr_base.specs.declared.kind.Kind.TheVariants.{Opener, Ending}
 use Rattle.sr_law.specs.declared.line.Line.{Line}
 use Rattle.sr_law.specs.declared.line.Line.TheVariants.{Packet, Placed, Swept, Retired}
 use Rattle.sr_law.specs.declared.sweep.Sweep.{Sweep}
-use Rattle.sr_law.specs.Keys.{same_key}
 use Rattle.sr_law.specs.Opening.{is_open}
 use Rattle.sr_law.specs.Setup.{SetupView}
 

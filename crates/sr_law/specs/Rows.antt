@@ -1,13 +1,13 @@
 -- Cause, in part: when there is no place for a key.
 use Rattle.std.specs.Prelude.{◌+◌, ◌*◌, Bool, false, not, ◌&&◌, ◌||◌, List, [], ◌∷◌}
 use Rattle.sr_base.specs.Key.{KeyView}
+use Rattle.sr_base.specs.Place.{same_place}
 use Rattle.sr_base.specs.declared.shape.Shape.{Shape}
 use Rattle.sr_base.specs.declared.place.Place.{Place}
 use Rattle.sr_base.specs.declared.place.Place.TheVariants.{Row}
 use Rattle.sr_law.specs.declared.line.Line.{Line}
 use Rattle.sr_law.specs.declared.line.Line.TheVariants.{Placed, Cleared}
 use Rattle.sr_hash.specs.Uses.{group_of}
-use Rattle.sr_law.specs.Keys.{same_place}
 
 -- whether an entry is live at a place after one line more
 abbrev pub live_after : Line → Place → Bool → Bool

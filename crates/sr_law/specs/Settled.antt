@@ -2,7 +2,8 @@
 -- The lists here have their newest line first, but for that of `gives_settled`.
 use Rattle.std.specs.Prelude.{ℕ, ◌+◌, ◌-◌, Bool, true, false, not, ◌&&◌, ◌||◌, ◌==◌, nat_lt, nat_le, if◌then◌else◌, List, [], ◌∷◌, ◌++◌, length, reverse, Option, Some, None, count_by}
 use Rattle.std.specs.List.{list_any, list_all}
-use Rattle.sr_base.specs.Key.{KeyView}
+use Rattle.sr_base.specs.Key.{KeyView, same_key}
+use Rattle.sr_base.specs.Place.{same_place}
 use Rattle.sr_base.specs.declared.shape.Shape.{Shape}
 use Rattle.sr_base.specs.declared.change.Change.{Change}
 use Rattle.sr_base.specs.declared.change.What.{What}
@@ -13,7 +14,7 @@ use Rattle.sr_law.specs.declared.line.Line.TheVariants.{Packet, Given, TakenDown
 use Rattle.sr_law.specs.declared.sweep.Sweep.{Sweep}
 use Rattle.sr_law.specs.Cause.{all_in_use}
 use Rattle.sr_law.specs.Groups.{after_gives, is_over, last_of_update}
-use Rattle.sr_law.specs.Keys.{same_key, same_place, clashes_in}
+use Rattle.sr_law.specs.Keys.{clashes_in}
 use Rattle.sr_law.specs.Opening.{is_open}
 use Rattle.sr_law.specs.Pools.{gives_to}
 use Rattle.sr_law.specs.Retire.{last_sweep, numbered_sweep}

@@ -1,11 +1,11 @@
 -- Order, in part: places are taken and freed.
 use Rattle.std.specs.Prelude.{Bool, true, false, not, ◌&&◌, if◌then◌else◌, List, [], ◌∷◌, Option, Some, None, option_map, is_none}
-use Rattle.sr_base.specs.Key.{KeyView}
+use Rattle.sr_base.specs.Key.{KeyView, same_key}
+use Rattle.sr_base.specs.Place.{same_place}
 use Rattle.sr_base.specs.declared.place.Place.{Place}
 use Rattle.sr_law.specs.declared.line.Line.{Line}
 use Rattle.sr_law.specs.declared.line.Line.TheVariants.{Reserved, Placed, Cleared}
 use Rattle.sr_law.specs.declared.taking.Taking.{Taking}
-use Rattle.sr_law.specs.Keys.{same_key, same_place}
 
 -- it was placed since it was taken
 abbrev pub now_placed : Taking → Taking

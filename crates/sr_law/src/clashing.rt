@@ -3,7 +3,7 @@ ghost use Rattle.std.specs.List.{list_any};
 ghost use Rattle.sr_law.specs.Held.{matches_entry, is_between, clears_between, reserves_against, may_clash};
 
 use crate::Line;
-use crate::keys::{clashes_in, same_key, same_place};
+use crate::keys::clashes_in;
 use sr_base::{Key, Place, Shape};
 
 // A packet of this key matches the other key's entry at this place.
@@ -14,7 +14,7 @@ fn matches_entry(shape: &Shape, c: Key, key: Key, place: Place) -> bool
 {
     match place {
         Place::Slot { way, .. } => clashes_in(shape, way, key, c),
-        Place::Row { .. } => same_key(key, c),
+        Place::Row { .. } => key.same(c),
     }
 }
 
@@ -34,7 +34,7 @@ fn clears_between(key: Key, place: Place, low: u64, high: u64, line: &Line) -> b
             out,
             key: cleared,
             place: at,
-        } => same_key(cleared, key) && same_place(at, place) && is_between(low, high, out),
+        } => cleared.same(key) && at.same(place) && is_between(low, high, out),
         _ => false,
     }
 }

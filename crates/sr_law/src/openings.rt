@@ -1,7 +1,6 @@
 ghost use Rattle.std.specs.Prelude.{◌≡◌, reverse};
 ghost use Rattle.sr_law.specs.Opening.{opened, opened_by, retires, opened_first, opening, is_open};
 
-use crate::keys::same_key;
 use crate::{Line, Opening, Verdict};
 use sr_base::{Key, Kind};
 
@@ -35,7 +34,7 @@ pub(crate) fn opened_by(line: &Line, c: Key) -> Option<Opening>
             kind: Kind::Opener,
             verdict,
             ..
-        } => if same_key(key, c) {
+        } => if key.same(c) {
             opened(out, verdict)
         } else {
             None
@@ -45,7 +44,7 @@ pub(crate) fn opened_by(line: &Line, c: Key) -> Option<Opening>
             key,
             verdict,
             ..
-        } => if same_key(key, c) {
+        } => if key.same(c) {
             opened(out, verdict)
         } else {
             None
@@ -59,7 +58,7 @@ fn retires(line: &Line, c: Key) -> bool
     ensures { result ≡ retires line.now c }
 {
     match *line {
-        Line::Retired { key, .. } => same_key(key, c),
+        Line::Retired { key, .. } => key.same(c),
         _ => false,
     }
 }

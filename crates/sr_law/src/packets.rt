@@ -3,7 +3,6 @@ ghost use Rattle.std.specs.List.{list_all};
 ghost use Rattle.sr_law.specs.Final.{packet_by, packets_of, same_kind, same_packet, is_as_often, same_packets};
 
 use crate::Line;
-use crate::keys::same_key;
 use sr_base::{Kind, Packet};
 
 // Two kinds are one.
@@ -22,7 +21,7 @@ fn same_kind(a: Kind, b: Kind) -> bool
 fn same_packet(a: &Packet, b: &Packet) -> bool
     ensures { result ≡ same_packet a.now b.now }
 {
-    a.number == b.number && same_key(a.key, b.key) && same_kind(a.kind, b.kind)
+    a.number == b.number && a.key.same(b.key) && same_kind(a.kind, b.kind)
 }
 
 // The packet that a line tells of.

@@ -4,7 +4,6 @@ ghost use Rattle.sr_law.specs.Full.{held_count};
 ghost use Rattle.sr_law.specs.Final.{answers, answers_rightly, is_answered, held_is_answered, all_held_answered, answer_is_held, meets_final};
 
 use crate::full::held_count;
-use crate::keys::same_key;
 use crate::packets::same_packets;
 use crate::{Line, Setup, Verdict};
 use sr_base::Key;
@@ -49,7 +48,7 @@ fn answers_rightly(pipe: u8, nth: usize, key: Key, entered: u64, line: &Line) ->
             nth: n,
             key: of_key,
             ..
-        } => at == pipe && n as usize == nth && same_key(of_key, key) && entered < out,
+        } => at == pipe && n as usize == nth && of_key.same(key) && entered < out,
         _ => false,
     }
 }

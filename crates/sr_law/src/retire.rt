@@ -2,7 +2,6 @@ ghost use Rattle.std.specs.Prelude.{◌≡◌, reverse};
 ghost use Rattle.std.specs.List.{list_any};
 ghost use Rattle.sr_law.specs.Retire.{ending_by, endings_of, may_end, retired_by, last_retired, placed_by, last_placed, is_before, uses_entry, uses_between, is_quiet_between, is_quiet, may_retire, meets_retire};
 
-use crate::keys::same_key;
 use crate::openings::is_open;
 use crate::sweeps::{is_next_sweep, last_sweep, numbered_sweep};
 use crate::{Line, Setup, Sweep};
@@ -19,7 +18,7 @@ fn ends(c: Key, retired: u64, tick: u64, line: &Line) -> bool
             key,
             kind: Kind::Ending,
             ..
-        } => same_key(key, c) && entered < tick && retired < out,
+        } => key.same(c) && entered < tick && retired < out,
         _ => false,
     }
 }
@@ -43,7 +42,7 @@ fn retired_by(line: &Line, c: Key) -> Option<u64>
     ensures { result ≡ retired_by line.now c }
 {
     match *line {
-        Line::Retired { out, key } => if same_key(key, c) { Some(out) } else { None },
+        Line::Retired { out, key } => if key.same(c) { Some(out) } else { None },
         _ => None,
     }
 }
@@ -67,7 +66,7 @@ fn placed_by(line: &Line, c: Key) -> Option<u64>
     ensures { result ≡ placed_by line.now c }
 {
     match *line {
-        Line::Placed { out, key, .. } => if same_key(key, c) { Some(out) } else { None },
+        Line::Placed { out, key, .. } => if key.same(c) { Some(out) } else { None },
         _ => None,
     }
 }
@@ -117,7 +116,7 @@ fn uses_between(c: Key, low: u64, high: u64, line: &Line) -> bool
             key,
             kind,
             ..
-        } => same_key(key, c) && uses_entry(kind) && low <= entered && out <= high,
+        } => key.same(c) && uses_entry(kind) && low <= entered && out <= high,
         _ => false,
     }
 }

@@ -2,7 +2,6 @@ ghost use Rattle.std.specs.Prelude.{◌≡◌, ◌≤◌, reverse};
 ghost use Rattle.sr_law.specs.Rows.{live_after, is_live, is_group_full};
 
 use crate::Line;
-use crate::keys::same_place;
 use sr_base::{Key, Place, Shape};
 use sr_hash::group;
 
@@ -11,8 +10,8 @@ fn live_after(line: &Line, place: Place, older: bool) -> bool
     ensures { result ≡ live_after line.now place older }
 {
     match *line {
-        Line::Placed { place: at, .. } => same_place(at, place) || older,
-        Line::Cleared { place: at, .. } => !same_place(at, place) && older,
+        Line::Placed { place: at, .. } => at.same(place) || older,
+        Line::Cleared { place: at, .. } => !at.same(place) && older,
         _ => older,
     }
 }

@@ -1,7 +1,6 @@
 ghost use Rattle.std.specs.Prelude.{◌≡◌, reverse, option_map};
 ghost use Rattle.sr_law.specs.Taken.{now_placed, taken_after, taken, may_place, may_clear, keeps_places};
 
-use crate::keys::{same_key, same_place};
 use crate::{Line, Taking};
 use sr_base::{Key, Place};
 
@@ -10,17 +9,17 @@ fn taken_after(line: &Line, place: Place, older: Option<Taking>) -> Option<Takin
     ensures { result ≡ taken_after line.now place older }
 {
     match *line {
-        Line::Reserved { key, place: at, .. } => if same_place(at, place) {
+        Line::Reserved { key, place: at, .. } => if at.same(place) {
             Some(Taking { key, placed: false })
         } else {
             older
         },
-        Line::Placed { place: at, .. } => if same_place(at, place) {
+        Line::Placed { place: at, .. } => if at.same(place) {
             now_placed(older)
         } else {
             older
         },
-        Line::Cleared { place: at, .. } => if same_place(at, place) { None } else { older },
+        Line::Cleared { place: at, .. } => if at.same(place) { None } else { older },
         _ => older,
     }
 }
@@ -55,7 +54,7 @@ fn may_place(key: Key, taking: Option<Taking>) -> bool
     ensures { result ≡ may_place key taking }
 {
     match taking {
-        Some(taking) => same_key(taking.key, key) && !taking.placed,
+        Some(taking) => taking.key.same(key) && !taking.placed,
         None => false,
     }
 }
@@ -65,7 +64,7 @@ fn may_clear(key: Key, taking: Option<Taking>) -> bool
     ensures { result ≡ may_clear key taking }
 {
     match taking {
-        Some(taking) => same_key(taking.key, key),
+        Some(taking) => taking.key.same(key),
         None => false,
     }
 }

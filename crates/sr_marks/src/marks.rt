@@ -6,10 +6,10 @@ use std::alloc::{AllocError, Global};
 use std::marker::Model;
 
 // The greatest number of marks; with it no count passes a u32.
-const MOST: usize = 0xffff_ffff;
+const MOST_MARKS: usize = 0xffff_ffff;
 
 // How many marks the first memory has room for.
-const FIRST: usize = 16;
+const FIRST_ROOM: usize = 16;
 
 /// A growing list of marks. Its calls take logarithmic time, but for those that take memory.
 #[derive(Debug, Drop)]
@@ -44,38 +44,24 @@ impl Marks {
         }
     }
 
-    /// No mark, and room for so many. The Err comes for want of memory, and for 2^32 marks or more.
-    pub fn with_room(alloc: Global, room: usize) -> Result<Marks, AllocError>
-        ensures marks { IfOk result (λ m. m.marks ≡ []) }
-        ensures room { IfOk result (λ m. m.room ≡ room) }
-    {
-        if room > MOST {
-            return Err(AllocError);
-        }
-        let marks = Vec::with_capacity(alloc, room)?;
-        let counts = Counts::of(alloc, marks.as_slice(), room)?;
-        Ok(Marks {
-            marks,
-            counts,
-            set: 0,
-        })
-    }
-
-    /// Makes room for at least one more mark. The Err comes for want of memory, and at 2^32 - 1 marks.
-    pub fn reserve(&mut self, alloc: Global) -> Result<(), AllocError>
+    /// Makes room for at least so many more marks. The Err comes for want of memory, and for 2^32 marks or more.
+    pub fn reserve(&mut self, alloc: Global, additional: usize) -> Result<(), AllocError>
         ensures marks { self.new.marks ≡ self.old.marks }
         ensures more { self.old.room ≤ self.new.room }
-        ensures room { OnOk result (0 < self.new.room) }
-        ensures succeeds { 0 < self.old.room → IsOk result }
+        ensures room { OnOk result (additional ≤ self.new.room) }
+        ensures succeeds { additional ≤ self.old.room → IsOk result }
     {
         let len = self.marks.len();
-        if len < self.counts.len() {
+        if additional <= self.counts.len() - len {
             return Ok(());
         }
-        if len >= MOST {
+        if additional > MOST_MARKS - len {
             return Err(AllocError);
         }
-        let capacity = (2 * len).max(FIRST).min(MOST);
+        let capacity = (2 * len)
+            .max(FIRST_ROOM)
+            .min(MOST_MARKS)
+            .max(len + additional);
         self.marks.reserve(capacity - len)?;
         self.counts = Counts::of(alloc, self.marks.as_slice(), capacity)?;
         Ok(())

@@ -14,7 +14,7 @@ fn marks(alloc: Global, text: &str) -> Result<Marks, AllocError> {
 
 // One mark more, with room for it.
 fn put(alloc: Global, marks: &mut Marks, mark: bool) -> Result<(), AllocError> {
-    marks.reserve(alloc)?;
+    marks.reserve(alloc, 1)?;
     marks.push(mark);
     Ok(())
 }
@@ -59,17 +59,6 @@ fn set_and_taken_away(rt: HostRuntime) -> Result<(), Fail> {
     for (n, want) in [(0, Some(2)), (1, Some(4)), (2, Some(6)), (3, None)] {
         assert_eq!(rt; marks.nth(n), want);
     }
-    Ok(())
-}
-
-#[test]
-fn empty_with_room(rt: HostRuntime) -> Result<(), Fail> {
-    let mut marks = Marks::with_room(rt.alloc(), 100)?;
-    assert_eq!(rt; (marks.len(), marks.nth(0), marks.next(0)), (0, None, None));
-    for _ in 0..100 {
-        put(rt.alloc(), &mut marks, true)?;
-    }
-    assert_eq!(rt; (marks.len(), marks.count()), (100, 100));
     Ok(())
 }
 

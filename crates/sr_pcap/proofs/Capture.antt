@@ -3,7 +3,7 @@ use Rattle.std.proofs.Common.{◌≡◌, ℕ, zero, suc, ◌+◌, List, length, 
 use Rattle.sr_pcap.specs.declared.format.Format.{Format}
 use Rattle.sr_pcap.specs.declared.next.Next.{Next}
 use Rattle.sr_pcap.specs.declared.next.Next.TheVariants.{Whole, End, Truncated, ReadFault, TooLong}
-use Rattle.sr_pcap.specs.Next.{IsLast, next_at, size_at, frame_at, rest_at}
+use Rattle.sr_pcap.specs.Next.{next_at, size_at, frame_at, rest_at}
 use Rattle.sr_pcap.specs.Reader.{TakesRecord}
 use Rattle.sr_pcap.specs.Records.{ended, with_frame, records_from}
 
@@ -25,6 +25,14 @@ records_go_on format room offset ms at xs bytes left read =
 pub records_full : (format : Format) (offset : ℕ) (bytes : List ℕ) → records_from format 0 offset bytes ≡ ended (next_at format offset bytes)
 unfolding records_from
 records_full format offset bytes = refl
+
+-- an answer other than a whole record
+abbrev pub IsLast : Next → Type 0
+IsLast (Whole ms at) = ⊥
+IsLast End = Unit {0}
+IsLast (Truncated at) = Unit {0}
+IsLast ReadFault = Unit {0}
+IsLast (TooLong at size) = Unit {0}
 
 -- what was answered is what comes after the records
 pub records_last : (format : Format) (room offset : ℕ) (bytes : List ℕ) (next : Next) → next_at format offset bytes ≡ next → IsLast next

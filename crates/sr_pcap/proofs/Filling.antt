@@ -3,7 +3,12 @@ use Rattle.std.proofs.Common.{◌≡◌, ℕ, ◌+◌, ◌≤◌, List, [], ◌+
 use Rattle.std.proofs.lemmas.List.{length-take-le, length-drop, length-append, take_at, drop_at, take-append-le, drop-drop}
 use Rattle.std.proofs.Math.Seq.{take-add}
 use borrow.Rule.Slice.PartMut.{put_mid, post_of}
-use Rattle.sr_pcap.specs.Filled.{Holds}
+
+-- the first `at` of these bytes are at the front of the buffer, and the others are left
+pub record Holds (at : ℕ) (xs buffer : List ℕ) (left : Option (List ℕ)) : Type 0 where
+  pub within : at ≤ length xs
+  pub front : take at buffer ≡ take at xs
+  pub rest : left ≡ Some (drop at xs)
 
 -- a piece put behind what is there
 take_with_piece : (at n k : ℕ) (into piece : List ℕ) → at ≤ length into → n ≤ length piece → take (at + n) (put_mid at k into piece) ≡ take at into ++ take n piece

@@ -10,6 +10,7 @@ use Rattle.sr_pcap.specs.declared.next.Next.TheVariants.{Whole, End, Truncated, 
 use Rattle.sr_pcap.specs.Format.{IsJudged, format_of, header_of, milliseconds, captured_length}
 use Rattle.sr_pcap.specs.Next.{next_sized, next_at, frame_at, rest_at}
 use Rattle.sr_pcap.specs.Reader.{Answers, Begins}
+use Rattle.sr_pcap.specs.Record.{most_captured}
 
 -- too few bytes for a header
 pub header_cut : (xs : List ℕ) → length xs < 24 → header_of xs ≡ Err (begin.Truncated 0)
@@ -54,28 +55,28 @@ next_headed format offset xs header enough same =
     ∙ ap (λ (ys : List ℕ). next_sized (milliseconds format ys) (captured_length format ys) offset xs) (sym same)
 
 -- a record with more captured bytes than any has
-pub next_long : (format : Format) (offset : ℕ) (xs header : List ℕ) → 16 ≤ length xs → header ≡ take 16 xs → 262144 < captured_length format header
+pub next_long : (format : Format) (offset : ℕ) (xs header : List ℕ) → 16 ≤ length xs → header ≡ take 16 xs → most_captured < captured_length format header
     → next_at format offset xs ≡ TooLong offset (captured_length format header)
 unfolding next_sized
 next_long format offset xs header enough same long =
-    next_headed format offset xs header enough same ∙ cond-true _ _ _ (lt-ltb 262144 (captured_length format header) long)
+    next_headed format offset xs header enough same ∙ cond-true _ _ _ (lt-ltb most_captured (captured_length format header) long)
 
 -- too few bytes for its captured ones
-pub next_short : (format : Format) (offset : ℕ) (xs header : List ℕ) → 16 ≤ length xs → header ≡ take 16 xs → captured_length format header ≤ 262144
+pub next_short : (format : Format) (offset : ℕ) (xs header : List ℕ) → 16 ≤ length xs → header ≡ take 16 xs → captured_length format header ≤ most_captured
     → length (drop 16 xs) < captured_length format header → next_at format offset xs ≡ Truncated offset
 unfolding next_sized
 next_short format offset xs header enough same fits few =
     next_headed format offset xs header enough same
-    ∙ cond-false _ _ _ (le-ltb 262144 (captured_length format header) fits)
+    ∙ cond-false _ _ _ (le-ltb most_captured (captured_length format header) fits)
     ∙ cond-true _ _ _ (lt-ltb (length xs) (16 + captured_length format header) (omega (arith, length-drop 16 xs)))
 
 -- a whole record
-pub next_whole : (format : Format) (offset : ℕ) (xs header : List ℕ) → 16 ≤ length xs → header ≡ take 16 xs → captured_length format header ≤ 262144
+pub next_whole : (format : Format) (offset : ℕ) (xs header : List ℕ) → 16 ≤ length xs → header ≡ take 16 xs → captured_length format header ≤ most_captured
     → captured_length format header ≤ length (drop 16 xs) → next_at format offset xs ≡ Whole (milliseconds format header) offset
 unfolding next_sized
 next_whole format offset xs header enough same fits all =
     next_headed format offset xs header enough same
-    ∙ cond-false _ _ _ (le-ltb 262144 (captured_length format header) fits)
+    ∙ cond-false _ _ _ (le-ltb most_captured (captured_length format header) fits)
     ∙ cond-false _ _ _ (le-ltb (length xs) (16 + captured_length format header) (omega (arith, length-drop 16 xs)))
 
 -- its captured bytes
@@ -105,21 +106,21 @@ answers_cut format offset r n xs bytes left e count some few rest =
     subst P (sym e) (next_cut format offset n xs count some few, rest)
 
 pub answers_long : (format : Format) (offset : ℕ) (r : Next) (size : ℕ) (xs header bytes : List ℕ) (left : Option (List ℕ)) → r ≡ TooLong offset size
-    → size ≡ captured_length format header → 16 ≤ length xs → header ≡ take 16 xs → 262144 < size → left ≡ Some (drop 16 xs) → Answers r format offset xs bytes left
+    → size ≡ captured_length format header → 16 ≤ length xs → header ≡ take 16 xs → most_captured < size → left ≡ Some (drop 16 xs) → Answers r format offset xs bytes left
 answers_long format offset r size xs header bytes left e is enough same long rest =
     let P : Next → Type 0 = λ n. Answers n format offset xs bytes left in
-    let over : 262144 < captured_length format header = omega arith in
+    let over : most_captured < captured_length format header = omega arith in
     subst P (sym e) (next_long format offset xs header enough same over ∙ ap (λ (s : ℕ). TooLong offset s) (sym is), rest)
 
 pub answers_short : (format : Format) (offset : ℕ) (r : Next) (size : ℕ) (xs header bytes : List ℕ) (left : Option (List ℕ)) → r ≡ Truncated offset
-    → size ≡ captured_length format header → 16 ≤ length xs → header ≡ take 16 xs → size ≤ 262144 → length (drop 16 xs) < size → left ≡ Some []
+    → size ≡ captured_length format header → 16 ≤ length xs → header ≡ take 16 xs → size ≤ most_captured → length (drop 16 xs) < size → left ≡ Some []
     → Answers r format offset xs bytes left
 answers_short format offset r size xs header bytes left e is enough same fits few rest =
     let P : Next → Type 0 = λ n. Answers n format offset xs bytes left in
     subst P (sym e) (next_short format offset xs header enough same (omega arith) (omega arith), rest)
 
 pub answers_whole : (format : Format) (offset : ℕ) (ms size : ℕ) (xs header bytes : List ℕ) (left : Option (List ℕ)) → ms ≡ milliseconds format header
-    → size ≡ captured_length format header → 16 ≤ length xs → header ≡ take 16 xs → size ≤ 262144 → size ≤ length (drop 16 xs)
+    → size ≡ captured_length format header → 16 ≤ length xs → header ≡ take 16 xs → size ≤ most_captured → size ≤ length (drop 16 xs)
     → bytes ≡ take size (drop 16 xs) → left ≡ Some (drop size (drop 16 xs)) → Answers (Whole ms offset) format offset xs bytes left
 answers_whole format offset ms size xs header bytes left when is enough same fits all taken rest =
     let there : length bytes ≡ size = ap length taken ∙ length-take-le size (drop 16 xs) all in

@@ -3,12 +3,6 @@ use Rattle.std.specs.Prelude.{◌≡◌, ℕ, ◌<◌, ◌≤◌, List, [], leng
 use Rattle.sr_pcap.specs.declared.filled.Filled.{Filled}
 use Rattle.sr_pcap.specs.declared.filled.Filled.TheVariants.{Full, Ended, Failed}
 
--- the first `at` of these bytes are at the front of the buffer, and the others are left
-pub record Holds (at : ℕ) (xs buffer : List ℕ) (left : Option (List ℕ)) : Type 0 where
-  pub within : at ≤ length xs
-  pub front : take at buffer ≡ take at xs
-  pub rest : left ≡ Some (drop at xs)
-
 -- The first `size` of these bytes fill the front of the buffer, and the others are left; or there are too few of them, and none is left.
 abbrev pub Fills : Filled → ℕ → List ℕ → List ℕ → Option (List ℕ) → Type 0
 Fills Full size xs front left = (size ≤ length xs) × (front ≡ take size xs) × (left ≡ Some (drop size xs))

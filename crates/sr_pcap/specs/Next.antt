@@ -2,13 +2,14 @@
 use Rattle.std.specs.Prelude.{ℕ, ◌+◌, ◌==◌, nat_lt, if◌then◌else◌, List, length, take, drop}
 use Rattle.sr_pcap.specs.declared.format.Format.{Format}
 use Rattle.sr_pcap.specs.declared.next.Next.{Next}
-use Rattle.sr_pcap.specs.declared.next.Next.TheVariants.{Whole, End, Truncated, ReadFault, TooLong}
+use Rattle.sr_pcap.specs.declared.next.Next.TheVariants.{Whole, End, Truncated, TooLong}
 use Rattle.sr_pcap.specs.Format.{milliseconds, captured_length}
+use Rattle.sr_pcap.specs.Record.{most_captured}
 
 -- what comes where the bytes begin with the header of a record with this time and this many captured bytes
 unfoldable pub next_sized : ℕ → ℕ → ℕ → List ℕ → Next
 next_sized ms size offset bytes =
-    if nat_lt 262144 size then TooLong offset size
+    if nat_lt most_captured size then TooLong offset size
     else (if nat_lt (length bytes) (16 + size) then Truncated offset else Whole ms offset)
 
 -- how many captured bytes the record has whose header the bytes begin with
@@ -29,11 +30,3 @@ frame_at format bytes = take (size_at format bytes) (drop 16 bytes)
 -- the bytes after that record
 abbrev pub rest_at : Format → List ℕ → List ℕ
 rest_at format bytes = drop (16 + size_at format bytes) bytes
-
--- an answer other than a whole record
-abbrev pub IsLast : Next → Type 0
-IsLast (Whole ms at) = ⊥
-IsLast End = Unit {0}
-IsLast (Truncated at) = Unit {0}
-IsLast ReadFault = Unit {0}
-IsLast (TooLong at size) = Unit {0}

@@ -7,6 +7,7 @@ use Rattle.sr_pcap.specs.declared.next.Next.{Next}
 use Rattle.sr_pcap.specs.declared.next.Next.TheVariants.{Whole, End, Truncated, ReadFault, TooLong}
 use Rattle.sr_pcap.specs.Format.{header_of}
 use Rattle.sr_pcap.specs.Next.{next_at, size_at, frame_at, rest_at}
+use Rattle.sr_pcap.specs.Record.{most_captured}
 
 -- a reader as the format of its capture, where the next record begins, the captured bytes of the last whole one, and the answer that it
 -- gives from now on, if there is one
@@ -31,11 +32,11 @@ ended_by reader why = record reader { ended = Some why }
 
 -- what any source allows: a record of this size was read, or the reader has ended
 abbrev pub Steps : Next → ReaderView → ReaderView → Type 0
-Steps (Whole ms offset) old new = (offset ≡ old.offset) × (length new.bytes ≤ 262144) × (new ≡ with_record old new.bytes)
+Steps (Whole ms offset) old new = (offset ≡ old.offset) × (length new.bytes ≤ most_captured) × (new ≡ with_record old new.bytes)
 Steps End old new = new ≡ ended_by old End
 Steps (Truncated offset) old new = (offset ≡ old.offset) × (new ≡ ended_by old (Truncated offset))
 Steps ReadFault old new = new ≡ ended_by old ReadFault
-Steps (TooLong offset size) old new = (offset ≡ old.offset) × (262144 < size) × (new ≡ ended_by old (TooLong offset size))
+Steps (TooLong offset size) old new = (offset ≡ old.offset) × (most_captured < size) × (new ≡ ended_by old (TooLong offset size))
 
 -- Of the record that comes next in these bytes, where the first of them stands at this offset, the captured bytes are there. Its header
 -- and they were taken, and the bytes after it are left.

@@ -1,4 +1,5 @@
-ghost use Rattle.std.specs.Prelude.{◌≡◌, ℕ, ◌≤◌, List, length, take, Some};
+ghost use Rattle.std.specs.Prelude.{◌≡◌, ◌≤◌, length, take};
+ghost use Rattle.std.specs.Option.{ForSome};
 ghost use Rattle.sr_io.specs.Faults.{Rose};
 ghost use Rattle.sr_pcap.specs.Filled.{Fills, IsCut};
 ghost use Rattle.sr_pcap.specs.declared.filled.Filled.TheVariants.{Failed};
@@ -19,7 +20,7 @@ pub enum Filled {
 /// Reads from a source until the first `size` bytes of a buffer are filled.
 pub fn fill<S: Source>(source: &mut S, into: &mut [u8], size: usize) -> Filled
     requires { size ≤ length into.old }
-    ensures bytes { (xs : List ℕ) → S.left source.old ≡ Some xs → Fills result size xs (take size into.new) (S.left source.new) }
+    ensures bytes { ForSome (S.left source.old) (λ xs. Fills result size xs (take size into.new) (S.left source.new)) }
     ensures cut { IsCut result size }
     ensures count { S.faults source.old ≤ S.faults source.new }
     ensures failed { result ≡ Failed → Rose (S.faults source.old) (S.faults source.new) }

@@ -1,13 +1,13 @@
 ghost use Rattle.std.specs.Prelude.{◌≡◌, ◌≢◌, ℕ, ◌<◌, ◌≤◌, ◌⊎◌, List, [], length, take, drop, Some, None, Err, IfOk};
+ghost use Rattle.std.specs.Option.{ForSome};
 ghost use Rattle.sr_io.specs.Faults.{Rose};
 ghost use Rattle.sr_pcap.specs.Reader.{Steps, Answers, Begins, ended_by};
 ghost use Rattle.sr_pcap.specs.declared.begin_refusal.BeginRefusal.TheVariants as begin;
-ghost use Rattle.sr_pcap.specs.declared.next.Next.{Next};
 ghost use Rattle.sr_pcap.specs.declared.next.Next.TheVariants.{ReadFault};
 
 use crate::filled::{Filled, fill};
 use crate::format::Format;
-use crate::record::Record;
+use crate::record::{MOST_CAPTURED, Record};
 use crate::{BeginRefusal, Next};
 use sr_io::Source;
 use std::alloc::Global;
@@ -19,9 +19,6 @@ const CAPTURE_HEADER: usize = 24;
 
 // The bytes of a record's header.
 const RECORD_HEADER: usize = 16;
-
-// The most captured bytes of a record.
-const MOST: u32 = 262_144;
 
 /// Reads a capture, a record at a time. The source is handed to each call, and must be the same one each time.
 #[derive(Debug, Drop)]
@@ -45,7 +42,7 @@ impl Reader {
     /// Reads the 24 bytes of a capture's header, and then judges them. The room for a record is made first, and no call after this one
     /// needs memory.
     pub fn begin<S: Source>(alloc: Global, source: &mut S) -> Result<Reader, BeginRefusal>
-        ensures header { (xs : List ℕ) → S.left source.old ≡ Some xs → Begins (λ r. r.format) result xs (S.left source.new) }
+        ensures header { ForSome (S.left source.old) (λ xs. Begins (λ r. r.format) result xs (S.left source.new)) }
         ensures link { IfOk result (λ r. (r.format.link ≡ 1) ⊎ (r.format.link ≡ 101)) }
         ensures fresh { IfOk result (λ r. (r.offset ≡ 24) × (r.bytes ≡ []) × (r.ended ≡ None)) }
         ensures count { S.faults source.old ≤ S.faults source.new }
@@ -80,9 +77,9 @@ impl Reader {
 
     /// Reads the next record. Once it has answered anything else than a whole record it reads no more, and answers the same.
     pub fn next<S: Source>(&mut self, source: &mut S) -> Next
-        ensures record { self.old.ended ≡ None → (xs : List ℕ) → S.left source.old ≡ Some xs → Answers result self.old.format self.old.offset xs self.new.bytes (S.left source.new) }
+        ensures record { self.old.ended ≡ None → ForSome (S.left source.old) (λ xs. Answers result self.old.format self.old.offset xs self.new.bytes (S.left source.new)) }
         ensures step { self.old.ended ≡ None → Steps result self.old self.new }
-        ensures again { (why : Next) → self.old.ended ≡ Some why → (result ≡ why) × (self.new ≡ self.old) × (source.new ≡ source.old) }
+        ensures again { ForSome self.old.ended (λ why. (result ≡ why) × (self.new ≡ self.old) × (source.new ≡ source.old)) }
         ensures count { S.faults source.old ≤ S.faults source.new }
         ensures read_fault { self.old.ended ≡ None → result ≡ ReadFault → Rose (S.faults source.old) (S.faults source.new) }
     {
@@ -95,7 +92,7 @@ impl Reader {
     // Reads the next record, of a reader that hasn't ended.
     fn read_record<S: Source>(&mut self, source: &mut S) -> Next
         requires { self.old.ended ≡ None }
-        ensures record { (xs : List ℕ) → S.left source.old ≡ Some xs → Answers result self.old.format self.old.offset xs self.new.bytes (S.left source.new) }
+        ensures record { ForSome (S.left source.old) (λ xs. Answers result self.old.format self.old.offset xs self.new.bytes (S.left source.new)) }
         ensures step { Steps result self.old self.new }
         ensures count { S.faults source.old ≤ S.faults source.new }
         ensures read_fault { result ≡ ReadFault → Rose (S.faults source.old) (S.faults source.new) }
@@ -121,7 +118,7 @@ impl Reader {
     {
         let offset = self.offset;
         let length = self.format.captured_length(header);
-        if length > MOST {
+        if length > MOST_CAPTURED {
             return self.end(Next::TooLong { offset, length });
         }
         let ms = self.format.milliseconds(header);
@@ -148,7 +145,7 @@ impl Reader {
 
 // Reads the 24 bytes of a capture's header, and then judges them.
 fn read_header<S: Source>(source: &mut S) -> Result<Format, BeginRefusal>
-    ensures header { (xs : List ℕ) → S.left source.old ≡ Some xs → Begins (λ f. f) result xs (S.left source.new) }
+    ensures header { ForSome (S.left source.old) (λ xs. Begins (λ f. f) result xs (S.left source.new)) }
     ensures link { IfOk result (λ f. (f.link ≡ 1) ⊎ (f.link ≡ 101)) }
     ensures count { S.faults source.old ≤ S.faults source.new }
     ensures read_fault { result ≡ Err begin.ReadFault → Rose (S.faults source.old) (S.faults source.new) }

@@ -1,7 +1,8 @@
-ghost use Rattle.std.specs.Prelude.{◌≡◌, ℕ, ◌≤◌, List, [], length, Some, IfOk};
+ghost use Rattle.std.specs.Prelude.{◌≡◌, ◌≤◌, [], length, IfOk};
+ghost use Rattle.std.specs.Option.{ForSome};
 ghost use Rattle.sr_io.specs.Faults.{Rose};
 ghost use Rattle.sr_pcap.specs.Filled.{Fills, IsCut};
-ghost use Rattle.sr_pcap.specs.Record.{HasSize};
+ghost use Rattle.sr_pcap.specs.Record.{HasSize, most_captured};
 ghost use Rattle.sr_pcap.specs.declared.filled.Filled.TheVariants.{Failed};
 
 use crate::filled::{Filled, fill};
@@ -9,8 +10,8 @@ use sr_io::Source;
 use std::alloc::{AllocError, Global};
 use std::marker::Model;
 
-// The most captured bytes of a record.
-const MOST: usize = 262_144;
+/// The most captured bytes of a record.
+pub const MOST_CAPTURED: u32 = 262_144;
 
 /// Room for the captured bytes of a record, and how many of them there are.
 #[derive(Debug, Drop)]
@@ -21,12 +22,13 @@ pub struct Record {
 
 impl Model for Record {
     ghost use Rattle.std.specs.Prelude.{◌≡◌, ℕ, ◌≤◌, List, take, vec_len};
+    ghost use Rattle.sr_pcap.specs.Record.{most_captured};
 
     ghost Value = { List ℕ };
 
     ghost view = { λ r. take r.size r.room.items };
 
-    ghost invariant = { λ r. (vec_len r.room ≡ 262144) × (r.size ≤ 262144) };
+    ghost invariant = { λ r. (vec_len r.room ≡ most_captured) × (r.size ≤ most_captured) };
 }
 
 impl Record {
@@ -35,7 +37,7 @@ impl Record {
         ensures { IfOk result (λ r. r ≡ []) }
     {
         Ok(Record {
-            room: vec![in alloc; 0; MOST]?,
+            room: vec![in alloc; 0; MOST_CAPTURED as usize]?,
             size: 0,
         })
     }
@@ -49,8 +51,8 @@ impl Record {
 
     /// Reads this many bytes in their place. Where they don't come, what is there afterwards is of no record.
     pub fn read<S: Source>(&mut self, source: &mut S, size: usize) -> Filled
-        requires { size ≤ 262144 }
-        ensures bytes { (xs : List ℕ) → S.left source.old ≡ Some xs → Fills result size xs self.new (S.left source.new) }
+        requires { size ≤ most_captured }
+        ensures bytes { ForSome (S.left source.old) (λ xs. Fills result size xs self.new (S.left source.new)) }
         ensures cut { IsCut result size }
         ensures size { HasSize result size self.new }
         ensures count { S.faults source.old ≤ S.faults source.new }

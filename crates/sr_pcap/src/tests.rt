@@ -161,41 +161,18 @@ fn one_byte_changed(rt: HostRuntime) {
         offset: 24,
         length: 262_148,
     };
-    assert!(rt;
-        answers(
-            rt.alloc(),
-            &with_byte(0, 0),
-            100,
-            0,
-            Err(BeginRefusal::Magic)
-        )
-    );
-    assert!(rt;
-        answers(
-            rt.alloc(),
-            &with_byte(4, 1),
-            100,
-            0,
-            Err(BeginRefusal::Major)
-        )
-    );
-    assert!(rt;
-        answers(
-            rt.alloc(),
-            &with_byte(20, 102),
-            100,
-            0,
-            Err(BeginRefusal::LinkType)
-        )
-    );
-    assert!(rt; answers(rt.alloc(), &with_byte(34, 4), 100, 0, Ok([long; 3])));
-    assert!(rt;
-        answers(
-            rt.alloc(),
-            &with_byte(34, 3),
-            100,
-            0,
-            Ok([Next::Truncated { offset: 24 }; 3])
-        )
-    );
+    let cut = Next::Truncated { offset: 24 };
+    let rows = [
+        (0, 0, Err(BeginRefusal::Magic)),
+        (4, 1, Err(BeginRefusal::Major)),
+        (20, 102, Err(BeginRefusal::LinkType)),
+        (34, 4, Ok([long; 3])),
+        (34, 3, Ok([cut; 3])),
+    ];
+    for (at, byte, expected) in rows {
+        assert!(rt;
+            answers(rt.alloc(), &with_byte(at, byte), 100, 0, expected),
+            "byte {at}"
+        );
+    }
 }

@@ -1,9 +1,9 @@
 -- Clear keys: the entries that a key's packets are taken for are those that stand in slots and clash with the key there.
-use Rattle.std.proofs.Common.{◌≡◌, ◌==◌, ℕ, ◌+◌, Bool, true, false, cond, ◌&&◌, ◌||◌, not, List, [], ◌∷◌, count_by, Option, None, Some, eqb, ltb, refl, sym, ap, subst, arith}
+use Rattle.std.proofs.Common.{◌≡◌, ◌==◌, ℕ, ◌+◌, Bool, true, false, cond, ◌&&◌, ◌||◌, not, List, [], ◌∷◌, count_by, Option, None, Some, eqb, refl, sym, ap, subst, arith}
+use Rattle.std.proofs.lemmas.Bool.{or_parts}
 use Rattle.std.proofs.lemmas.Bool.Decides.{nat_tests}
 use Rattle.std.proofs.lemmas.List.Sums.{sum_by-cons}
 use Rattle.std.specs.Prelude.{is_some}
-use Rattle.std.specs.List.{list_any}
 use Rattle.sr_base.specs.Key.{KeyView}
 use Rattle.sr_base.specs.declared.place.Place.{Place}
 use Rattle.sr_base.specs.declared.place.Place.TheVariants.{Slot, Row}
@@ -11,11 +11,12 @@ use Rattle.sr_base.specs.declared.shape.Shape.{Shape}
 use Rattle.sr_hash.specs.Clash.{clashes}
 use Rattle.sr_shadow.specs.Book.{entry_for, is_registered, is_stander, standing_of, DistinctKeys}
 use Rattle.sr_shadow.specs.Entry.{is_of, is_placed, is_slot_in}
-use Rattle.sr_shadow.proofs.Splits.{same_key-true}
 use Rattle.sr_shadow.specs.Plan.{clashes_at, is_clear_but, is_mistaken, is_mistaken_but}
 use Rattle.sr_shadow.specs.declared.entry.Entry.{Entry}
 use Rattle.sr_plan.specs.Clear.{mistaken_one}
 use Rattle.sr_plan.specs.Moves.{NonePlaced}
+use Rattle.sr_base.proofs.Sameness.{same_key-true}
+use Rattle.sr_shadow.proofs.Classes.{any_counted}
 
 -- the entry is the other key's, and the key's packets are taken for its own
 abbrev is_mistaken_of : Shape → KeyView → KeyView → Entry → Bool
@@ -23,10 +24,6 @@ is_mistaken_of shape key other e = is_of other e && is_mistaken shape key e
 
 count_cons : (test : Entry → Bool) (e : Entry) (es : List Entry) → count_by test (e ∷ es) ≡ cond (test e) 1 0 + count_by test es
 count_cons test e es = sum_by-cons (λ x. cond (test x) 1 0) e es
-
-either_false : (a b : Bool) → (a || b) ≡ false → (a ≡ false) × (b ≡ false)
-either_false true b e = absurd cc
-either_false false b e = (refl, e)
 
 -- a slot of one way stands in that way alone
 one_slot : (own : Bool) (n : ℕ) (first second here : Bool) → own ≡ false → ((n == 1) ≡ true → here ≡ first) → ((n == 2) ≡ true → here ≡ second)
@@ -74,7 +71,7 @@ standing_parted : (shape : Shape) (key other : KeyView) (es : List Entry) → No
     → standing_of shape 1 key es + standing_of shape 2 key es ≡ count_by (is_mistaken_but shape key other) es + count_by (is_mistaken_of shape key other) es
 standing_parted shape key other [] free = refl
 standing_parted shape key other (e ∷ es) free =
-    let parts = either_false _ _ free in
+    let parts = or_parts _ _ free in
     let rest = standing_parted shape key other es parts.1 in
     let once = stands_once shape key e parts.0 in
     let part = parted (is_of other e) (is_mistaken shape key e) in
@@ -88,7 +85,7 @@ standing_parted shape key other (e ∷ es) free =
 none_of : (shape : Shape) (key other : KeyView) (es : List Entry) → is_registered other es ≡ false → count_by (is_mistaken_of shape key other) es ≡ 0
 none_of shape key other [] free = refl
 none_of shape key other (e ∷ es) free =
-    let parts = either_false _ _ free in
+    let parts = or_parts _ _ free in
     let rest = none_of shape key other es parts.1 in
     let here : cond {A = ℕ} (is_mistaken_of shape key other e) 1 0 ≡ 0 = ap (λ b. cond (b && is_mistaken shape key e) 1 0) parts.0 in
     let c = count_cons (is_mistaken_of shape key other) e es in
@@ -111,11 +108,6 @@ one_of shape key other (e ∷ es) d = by (is_of other e) refl (one_of shape key 
     by false t rest =
         let here : cond {A = ℕ} (is_mistaken_of shape key other e) 1 0 ≡ 0 = ap (λ b. cond (b && is_mistaken shape key e) 1 0) t in
         omega (arith, rest, here, c)
-
--- some pass a test where at least one is counted
-any_counted : (test : Entry → Bool) (es : List Entry) → list_any test es ≡ ltb 0 (count_by test es)
-any_counted test [] = refl
-any_counted test (e ∷ es) = grind (arith, nat_tests, any_counted test es, count_cons test e es)
 
 -- So the key is clear but for the other where no more stand with a clash than the other key's entry.
 pub clear_counted : (shape : Shape) (key other : KeyView) (es : List Entry) → DistinctKeys es → NonePlaced key es

@@ -4,17 +4,14 @@ use Rattle.std.specs.Prelude.{IfSome}
 use Rattle.std.proofs.lemmas.Bool.Decides.{nat_tests}
 use Rattle.std.proofs.lemmas.List.Sums.{sum_by-cons}
 use Rattle.std.specs.List.{list_any}
-use Rattle.sr_base.specs.Key.{KeyView}
+use Rattle.sr_base.specs.Key.{KeyView, same_key}
 use Rattle.sr_base.specs.declared.place.Place.{Place}
 use Rattle.sr_shadow.specs.Book.{entry_for, holder_of, is_registered, DistinctKeys, HeldOnce}
-use Rattle.sr_shadow.specs.Entry.{holds, is_at, is_of, is_placed, same_key, times_held}
+use Rattle.sr_shadow.specs.Entry.{holds, is_at, is_of, is_placed, times_held}
 use Rattle.sr_shadow.specs.Plan.{entry_at, IsUnplaced}
 use Rattle.sr_shadow.specs.declared.entry.Entry.{Entry}
 use Rattle.sr_plan.specs.Moves.{if_at, NonePlaced}
-use Rattle.sr_shadow.proofs.Splits.{same_key-true, same_key-self}
-
-pub same_key-sym : (a b : KeyView) → same_key a b ≡ same_key b a
-same_key-sym a b = grind (arith, nat_tests)
+use Rattle.sr_base.proofs.Sameness.{same_key-true, same_key-self}
 
 pub some_same : (a b : Entry) → Some a ≡ Some b → a ≡ b
 some_same a b p = grind arith

@@ -3,13 +3,13 @@ use Rattle.std.proofs.Common.{◌≡◌, ℕ, Bool, true, false, cond, ◌&&◌,
 use Rattle.std.specs.Prelude.{unwrap_or}
 use Rattle.std.specs.List.{list_any}
 use Rattle.std.specs.Option.{option_or}
-use Rattle.sr_base.specs.Key.{KeyView}
+use Rattle.sr_base.specs.Key.{KeyView, same_key}
 use Rattle.sr_base.specs.declared.place.Place.{Place}
 use Rattle.sr_base.specs.declared.place.Place.TheVariants.{Slot, Row}
 use Rattle.sr_base.specs.declared.shape.Shape.{Shape}
 use Rattle.sr_hash.specs.Clash.{clashes}
-use Rattle.sr_shadow.specs.Book.{holder_of, is_clashing, is_registered, is_rival, with_changed}
-use Rattle.sr_shadow.specs.Entry.{fresh, holds, is_at, is_of, is_row, same_key}
+use Rattle.sr_shadow.specs.Book.{is_clashing, is_registered, is_rival, with_changed}
+use Rattle.sr_shadow.specs.Entry.{fresh, holds, is_at, is_of, is_row}
 use Rattle.sr_shadow.specs.Plan.{KeepsPlaces, clashes_at, entry_at, first_move, first_plan, first_usable, is_clear, is_clear_but, is_free, is_mistaken, is_mistaken_but, is_usable, key_rows, key_slots, move_at, move_from, move_if_clear, move_plan, move_to, moved, other_way, row_plan, slot_if_clear, slot_plan, slot_then, slots_of, target, with_key, with_moved}
 use Rattle.sr_shadow.specs.declared.entry.Entry.{Entry}
 use Rattle.sr_shadow.specs.declared.plan.Plan.{Plan}

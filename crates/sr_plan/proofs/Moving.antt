@@ -1,21 +1,24 @@
 -- The book with an entry at another place.
 use Rattle.std.proofs.Common.{◌≡◌, ℕ, ◌≤◌, Bool, true, false, cond, ◌&&◌, ◌||◌, not, List, [], ◌∷◌, ◌++◌, find, sum_by, is_none, is_some, Option, None, Some, option_map, refl, sym, ◌∙◌, ap, subst, true≢false, arith}
+use Rattle.std.proofs.lemmas.Bool.{and_parts}
 use Rattle.std.proofs.lemmas.Bool.Decides.{nat_tests}
 use Rattle.std.proofs.lemmas.List.Folds.{list_any-append}
 use Rattle.std.proofs.lemmas.List.Sums.{sum_by-cons}
 use Rattle.std.specs.List.{list_any}
-use Rattle.sr_base.specs.Key.{KeyView}
+use Rattle.sr_base.specs.Key.{KeyView, same_key}
+use Rattle.sr_base.specs.Place.{same_place}
 use Rattle.sr_base.specs.declared.place.Place.{Place}
 use Rattle.sr_base.specs.declared.place.Place.TheVariants.{Slot, Row}
 use Rattle.sr_base.specs.declared.shape.Shape.{Shape}
 use Rattle.sr_hash.specs.Clash.{clashes}
 use Rattle.sr_shadow.specs.Book.{entry_for, holder_of, is_clashing, is_registered, is_rival, DistinctKeys, HeldOnce}
-use Rattle.sr_shadow.specs.Entry.{fresh, holds, is_at, is_of, is_outside, is_placed, is_row, same_key, same_place, times_held}
+use Rattle.sr_shadow.specs.Entry.{fresh, holds, is_at, is_of, is_outside, is_placed, is_row, times_held}
 use Rattle.sr_shadow.specs.Plan.{entry_at, first_usable, is_free, moved, slots_in, slots_of, target, with_key, with_moved}
 use Rattle.sr_shadow.specs.declared.entry.Entry.{Entry}
-use Rattle.sr_shadow.proofs.Splits.{changed_none, same_key-true}
+use Rattle.sr_base.proofs.Sameness.{same_key-true, same_key-sym}
+use Rattle.sr_shadow.proofs.Splits.{changed_none}
 use Rattle.sr_plan.specs.Moves.{IsMover, NonePlaced, is_nobody_else, is_slot}
-use Rattle.sr_plan.proofs.Holding.{found_any, found_passes, none_holds, same_key-sym, some_same}
+use Rattle.sr_plan.proofs.Holding.{found_any, found_passes, none_holds, some_same}
 use Rattle.sr_plan.proofs.Usable.{usable_slot}
 
 -- a place is free where no entry holds it
@@ -62,10 +65,6 @@ fewer p q (e ∷ es) le h = by (p e) (q e) refl refl (fewer p q es le) h
     by false true s t more h = absurd (true≢false (sym (le e t) ∙ s))
     by false false s t more h = more h
 
-second_true : (a b : Bool) → (a && b) ≡ true → b ≡ true
-second_true true b e = e
-second_true false b e = absurd cc
-
 -- where only the key's entry holds the place, no other does
 alone : (place : Place) (es : List Entry) (e : Entry) (other : KeyView) → sum_by (times_held place) es ≤ 1 → find (holds place) es ≡ Some e → is_of other e ≡ true → list_any (holds_but other place) es ≡ false
 alone place [] e other once h own = refl
@@ -86,7 +85,7 @@ alone place (x ∷ xs) e other once h own = by (holds place x) refl (λ few f. a
         let rest : sum_by (times_held place) xs ≡ 0 = grind (arith, nat_tests, sum_by-cons (times_held place) x xs) in
         ap (λ b. (not (is_of other x) && b) || list_any (holds_but other place) xs) s
         ∙ off (is_of other x) (list_any (holds_but other place) xs) mine
-        ∙ fewer (holds place) (holds_but other place) xs (λ y t. second_true (not (is_of other y)) (holds place y) t) (none_holds place xs rest)
+        ∙ fewer (holds place) (holds_but other place) xs (λ y t. (and_parts (not (is_of other y)) (holds place y) t).1) (none_holds place xs rest)
     by false s more h =
         let rest : sum_by (times_held place) xs ≤ 1 = grind (arith, nat_tests, sum_by-cons (times_held place) x xs) in
         ap (λ b. (not (is_of other x) && b) || list_any (holds_but other place) xs) s

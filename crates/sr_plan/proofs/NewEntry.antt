@@ -4,18 +4,19 @@ use Rattle.std.proofs.lemmas.List.{map-append}
 use Rattle.std.proofs.lemmas.List.Folds.{list_any-append}
 use Rattle.std.specs.List.{list_any}
 use Rattle.std.specs.Option.{option_or}
-use Rattle.sr_base.specs.Key.{KeyView}
+use Rattle.sr_base.specs.Key.{KeyView, same_key}
 use Rattle.sr_base.specs.declared.place.Place.{Place}
 use Rattle.sr_base.specs.declared.place.Place.TheVariants.{Slot, Row}
 use Rattle.sr_base.specs.declared.shape.Shape.{Shape}
 use Rattle.sr_hash.specs.Uses.{bucket_of}
 use Rattle.sr_shadow.specs.Book.{holder_of, is_clashing, is_registered, is_rival}
-use Rattle.sr_shadow.specs.Entry.{fresh, holds, is_at, is_of, same_key}
+use Rattle.sr_shadow.specs.Entry.{fresh, holds, is_at, is_of}
 use Rattle.sr_shadow.specs.Plan.{entry_at, first_move, first_plan, first_usable, is_clear, is_clear_but, is_free, is_mistaken, is_mistaken_but, is_usable, key_rows, key_slots, moved, move_at, move_from, move_if_clear, move_to, other_way, row_plan, slot_if_clear, slot_plan, slot_then, slots_in, target, with_key, with_moved}
 use Rattle.sr_shadow.specs.declared.entry.Entry.{Entry}
 use Rattle.sr_shadow.specs.declared.plan.Plan.{Plan}
 use Rattle.sr_shadow.specs.declared.plan.Plan.TheVariants as plan
-use Rattle.sr_plan.proofs.Holding.{found_any, same_key-sym}
+use Rattle.sr_base.proofs.Sameness.{same_key-sym}
+use Rattle.sr_plan.proofs.Holding.{found_any}
 use Rattle.sr_plan.proofs.Later.{no_room_none, none_no_room}
 use Rattle.sr_plan.proofs.Usable.{usable_slot}
 

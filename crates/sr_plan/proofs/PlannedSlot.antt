@@ -1,5 +1,6 @@
 -- A planned slot leaves all keys clear.
 use Rattle.std.proofs.Common.{◌≡◌, ◌==◌, ℕ, zero, suc, Bool, true, false, cond, ◌&&◌, ◌||◌, not, List, [], ◌∷◌, map, find, Option, None, Some, option_map, refl, sym, ◌∙◌, ap, subst, arith}
+use Rattle.std.proofs.lemmas.Bool.{and_parts, not-true, or_parts}
 use Rattle.std.specs.Prelude.{slice_get}
 use Rattle.std.proofs.lemmas.Bool.Decides.{nat_tests}
 use Rattle.std.specs.List.{list_any}
@@ -14,7 +15,7 @@ use Rattle.sr_shadow.specs.Entry.{is_of, is_outside, settled}
 use Rattle.sr_shadow.specs.Plan.{AllClear, AllClearBut, clashes_at, first_plan, first_usable, is_clear, is_mistaken, is_usable, key_slots, slot_if_clear, slot_plan}
 use Rattle.sr_shadow.specs.declared.entry.Entry.{Entry}
 use Rattle.sr_shadow.specs.declared.plan.Plan.TheVariants as plan
-use Rattle.sr_shadow.proofs.Splits.{same_key-true}
+use Rattle.sr_base.proofs.Sameness.{same_key-true}
 use Rattle.sr_plan.proofs.Holding.{some_same}
 use Rattle.sr_plan.proofs.Later.{slot_first}
 
@@ -27,23 +28,11 @@ clashes-sym shape way a b =
     ∙ (ap (λ t. (b.vip == a.vip) && (t && (digest_of way a shape.digest_bits == digest_of way b shape.digest_bits))) (same_number (bucket_of way a shape.buckets) (bucket_of way b shape.buckets))
     ∙ ap (λ t. (b.vip == a.vip) && ((bucket_of way b shape.buckets == bucket_of way a shape.buckets) && t)) (same_number (digest_of way a shape.digest_bits) (digest_of way b shape.digest_bits)))
 
-either_false : (a b : Bool) → (a || b) ≡ false → (a ≡ false) × (b ≡ false)
-either_false true b e = absurd cc
-either_false false b e = (refl, e)
-
-both_true : (a b : Bool) → (a && b) ≡ true → (a ≡ true) × (b ≡ true)
-both_true true b e = (refl, e)
-both_true false b e = absurd cc
-
-not_true : (a : Bool) → not a ≡ true → a ≡ false
-not_true true e = absurd cc
-not_true false e = refl
-
 -- what no entry passes, one of them doesn't
 none_passes : (p : Entry → Bool) (es : List Entry) (i : ℕ) (e : Entry) → slice_get es i ≡ Some e → list_any p es ≡ false → p e ≡ false
 none_passes p [] i e at none = absurd cc
-none_passes p (x ∷ xs) zero e at none = subst (λ y. p y ≡ false) (some_same x e at) (either_false _ _ none).0
-none_passes p (x ∷ xs) (suc i) e at none = none_passes p xs i e at (either_false (p x) (list_any p xs) none).1
+none_passes p (x ∷ xs) zero e at none = subst (λ y. p y ≡ false) (some_same x e at) (or_parts _ _ none).0
+none_passes p (x ∷ xs) (suc i) e at none = none_passes p xs i e at (or_parts (p x) (list_any p xs) none).1
 
 get_mapped : (g : Entry → Entry) (es : List Entry) (i : ℕ) → slice_get (map g es) i ≡ option_map g (slice_get es i)
 get_mapped g [] i = refl
@@ -53,7 +42,7 @@ get_mapped g (x ∷ xs) (suc i) = get_mapped g xs i
 -- the planned key stays clear, its own entry being none that it is taken for
 own_clear : (shape : Shape) (key : KeyView) (place : Place) (es : List Entry) → list_any (is_mistaken shape key) es ≡ false → list_any (is_mistaken shape key) (with_changed (settled place) key es) ≡ false
 own_clear shape key place [] h = refl
-own_clear shape key place (x ∷ xs) h = by (is_of key x) refl (own_clear shape key place xs (either_false _ _ h).1)
+own_clear shape key place (x ∷ xs) h = by (is_of key x) refl (own_clear shape key place xs (or_parts _ _ h).1)
   where
     shut : (o c : Bool) → o ≡ true → (not o && c) ≡ false
     shut true c e = refl
@@ -62,13 +51,13 @@ own_clear shape key place (x ∷ xs) h = by (is_of key x) refl (own_clear shape 
     by : (b : Bool) → is_of key x ≡ b → list_any (is_mistaken shape key) (with_changed (settled place) key xs) ≡ false
         → (is_mistaken shape key (cond b (settled place x) x) || list_any (is_mistaken shape key) (with_changed (settled place) key xs)) ≡ false
     by true t more = ap (λ b. b || list_any (is_mistaken shape key) (with_changed (settled place) key xs)) (shut (is_of key x) (clashes_at shape key x.key (Some place)) t) ∙ more
-    by false t more = ap (λ b. b || list_any (is_mistaken shape key) (with_changed (settled place) key xs)) (either_false (is_mistaken shape key x) (list_any (is_mistaken shape key) xs) h).0 ∙ more
+    by false t more = ap (λ b. b || list_any (is_mistaken shape key) (with_changed (settled place) key xs)) (or_parts (is_mistaken shape key x) (list_any (is_mistaken shape key) xs) h).0 ∙ more
 
 -- another key stays clear, since it doesn't clash with the planned key there
 other_clear : (shape : Shape) (k key : KeyView) (place : Place) (es : List Entry) → clashes_at shape k key (Some place) ≡ false → list_any (is_mistaken shape k) es ≡ false
     → list_any (is_mistaken shape k) (with_changed (settled place) key es) ≡ false
 other_clear shape k key place [] apart h = refl
-other_clear shape k key place (x ∷ xs) apart h = by (is_of key x) refl (other_clear shape k key place xs apart (either_false _ _ h).1)
+other_clear shape k key place (x ∷ xs) apart h = by (is_of key x) refl (other_clear shape k key place xs apart (or_parts _ _ h).1)
   where
     shut : (o c : Bool) → c ≡ false → (not o && c) ≡ false
     shut true c e = refl
@@ -80,7 +69,7 @@ other_clear shape k key place (x ∷ xs) apart h = by (is_of key x) refl (other_
         let own : key ≡ x.key = same_key-true key x.key t in
         ap (λ b. b || list_any (is_mistaken shape k) (with_changed (settled place) key xs))
         (shut (is_of k x) (clashes_at shape k x.key (Some place)) (subst (λ y. clashes_at shape k y (Some place) ≡ false) own apart)) ∙ more
-    by false t more = ap (λ b. b || list_any (is_mistaken shape k) (with_changed (settled place) key xs)) (either_false (is_mistaken shape k x) (list_any (is_mistaken shape k) xs) h).0 ∙ more
+    by false t more = ap (λ b. b || list_any (is_mistaken shape k) (with_changed (settled place) key xs)) (or_parts (is_mistaken shape k x) (list_any (is_mistaken shape k) xs) h).0 ∙ more
 
 -- what a planned slot is
 found_usable : (p : Place → Bool) (places : List Place) (place : Place) → find p places ≡ Some place → p place ≡ true
@@ -111,7 +100,7 @@ apart_there : (shape : Shape) (es : List Entry) (key : KeyView) (place : Place) 
     → clashes_at shape e.key key (Some place) ≡ false
 apart_there shape es key (Row row) i e usable at out other = refl
 apart_there shape es key (Slot way bucket cell) i e usable at out other =
-    let none : is_clashing shape way key es ≡ false = not_true _ (both_true _ _ usable).1 in
+    let none : is_clashing shape way key es ≡ false = not-true _ (and_parts _ _ usable).1 in
     let rival = none_passes (is_rival shape way key) es i e at none in
     shut ((way == 1) || (way == 2)) (clashes shape way e.key key) (clashes-sym shape way e.key key ∙ bare (is_outside e) (is_of key e) (clashes shape way key e.key) out other rival)
   where
@@ -137,11 +126,11 @@ planned_slot_clear shape es key place h clear i e at out =
         → is_clear shape (with_changed (settled place) key es) e.key ≡ true
     of x true t at it own usable =
         let k : key ≡ e.key = same_key-true key x.key t ∙ ap (λ y. y.key) it in
-        subst (λ y. is_clear shape (with_changed (settled place) key es) y ≡ true) k (turned _ (own_clear shape key place es (not_true _ own)))
+        subst (λ y. is_clear shape (with_changed (settled place) key es) y ≡ true) k (turned _ (own_clear shape key place es (not-true _ own)))
     of x false t at it own usable =
         let outside : is_outside x ≡ true = subst (λ y. is_outside y ≡ true) (sym it) out in
         subst (λ y. is_clear shape (with_changed (settled place) key es) y.key ≡ true) it
-        (turned _ (other_clear shape x.key key place es (apart_there shape es key place i x usable at outside t) (not_true _ (clear i x at t outside))))
+        (turned _ (other_clear shape x.key key place es (apart_there shape es key place i x usable at outside t) (not-true _ (clear i x at t outside))))
 
     by : (o : Option Entry) → slice_get es i ≡ o → option_map (λ x. cond (is_of key x) (settled place x) x) o ≡ Some e → is_clear shape es key ≡ true → is_usable shape es key place ≡ true
         → is_clear shape (with_changed (settled place) key es) e.key ≡ true

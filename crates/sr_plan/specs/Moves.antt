@@ -1,11 +1,11 @@
 -- What is known of an entry that may move.
 use Rattle.std.specs.Prelude.{◌≡◌, ◌&&◌, Bool, true, false, cond, List, Option, Some, None}
 use Rattle.std.specs.List.{list_any}
-use Rattle.sr_base.specs.Key.{KeyView}
+use Rattle.sr_base.specs.Key.{KeyView, same_key}
 use Rattle.sr_base.specs.declared.place.Place.{Place}
 use Rattle.sr_base.specs.declared.place.Place.TheVariants.{Slot, Row}
 use Rattle.sr_shadow.specs.Book.{entry_for}
-use Rattle.sr_shadow.specs.Entry.{is_at, is_of, is_outside, is_placed, same_key}
+use Rattle.sr_shadow.specs.Entry.{is_at, is_of, is_outside, is_placed}
 use Rattle.sr_shadow.specs.declared.entry.Entry.{Entry}
 
 abbrev pub is_slot : Place → Bool

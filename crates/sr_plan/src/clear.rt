@@ -3,7 +3,6 @@ ghost use Rattle.sr_shadow.specs.Plan.{clashes_at, is_clear_but, is_mistaken_but
 ghost use Rattle.sr_plan.specs.Clear.{mistaken_one};
 ghost use Rattle.sr_plan.specs.Moves.{NonePlaced};
 
-use crate::slots::same_key;
 use sr_base::{Key, Layout, Place, layout_ranges};
 use sr_hash::clashes;
 use sr_shadow::{Entry, Shadow, book_rules};
@@ -26,7 +25,7 @@ fn mistaken_one(layout: &Layout, key: Key, entry: Option<&Entry>) -> u64
 {
     match entry {
         Some(entry) => {
-            if !same_key(key, entry.key) && clashes_at(layout, key, entry) {
+            if !key.same(entry.key) && clashes_at(layout, key, entry) {
                 1
             } else {
                 0
@@ -40,7 +39,7 @@ fn mistaken_one(layout: &Layout, key: Key, entry: Option<&Entry>) -> u64
 pub(crate) fn is_mistaken_but(layout: &Layout, key: Key, other: Key, entry: &Entry) -> bool
     ensures { result ≡ is_mistaken_but layout.now.shape key other entry.now }
 {
-    !same_key(other, entry.key) && (!same_key(key, entry.key) && clashes_at(layout, key, entry))
+    !other.same(entry.key) && (!key.same(entry.key) && clashes_at(layout, key, entry))
 }
 
 // Whether the entry's Live place is a slot of a way in which its key clashes with this one.

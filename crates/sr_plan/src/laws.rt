@@ -1,11 +1,11 @@
 //! What the first plan means.
 
 ghost use Rattle.std.specs.Prelude.{◌≡◌, ◌++◌, ◌∷◌, ℕ, Bool, List, [], None, false};
-ghost use Rattle.sr_base.specs.Key.{KeyView};
+ghost use Rattle.sr_base.specs.Key.{KeyView, same_key};
 ghost use Rattle.sr_base.specs.declared.place.Place.{Place};
 ghost use Rattle.sr_base.specs.declared.shape.Shape.{Shape};
 ghost use Rattle.sr_shadow.specs.Book.{is_registered, with_changed};
-ghost use Rattle.sr_shadow.specs.Entry.{closed, fresh, same_key, settled, swept};
+ghost use Rattle.sr_shadow.specs.Entry.{closed, fresh, settled, swept};
 ghost use Rattle.sr_shadow.specs.Plan.{AllClear, AllClearBut, KeepsPlaces, first_plan, move_plan, row_plan, slot_plan};
 ghost use Rattle.sr_shadow.specs.declared.entry.Entry.{Entry};
 ghost use Rattle.sr_shadow.specs.declared.plan.Plan.TheVariants as plan;

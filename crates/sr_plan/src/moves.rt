@@ -1,12 +1,12 @@
 ghost use Rattle.std.specs.Prelude.{◌≡◌, ◌≤◌, IfSome, Some, true, find, option_copied};
 ghost use Rattle.sr_shadow.specs.Book.{entry_for, holder_of};
-ghost use Rattle.sr_shadow.specs.Entry.{is_at, same_place};
+ghost use Rattle.sr_shadow.specs.Entry.{is_at};
 ghost use Rattle.sr_shadow.specs.Plan.{entry_at, first_move, first_usable, is_free, move_from, move_of, other_way, slot_then, slots_of, target, with_moved, move_plan};
 ghost use Rattle.sr_shadow.specs.declared.entry.Entry.{Entry as AnEntry};
 ghost use Rattle.sr_plan.specs.Moves.{IsMover, NonePlaced, if_at, is_nobody_else, is_slot};
 
 use crate::clear::is_clear_but;
-use crate::slots::{first_free, key_slots, same_key, slots_of};
+use crate::slots::{first_free, key_slots, slots_of};
 use sr_base::{Key, Layout, Place, layout_ranges};
 use sr_hash::clashes;
 use sr_shadow::{Entry, Plan, Shadow, book_rules};
@@ -194,7 +194,7 @@ fn is_left(shadow: &Shadow, key: Key, entry: &Entry, to: Place, place: Place) ->
 {
     book_rules(shadow);
     let _ = key;
-    !same_place(place, to) && is_nobody_else(shadow.holder(place), entry.key)
+    !place.same(to) && is_nobody_else(shadow.holder(place), entry.key)
 }
 
 // Whether that is nobody, or this key.
@@ -203,26 +203,7 @@ fn is_nobody_else(holder: Option<Key>, key: Key) -> bool
 {
     match holder {
         None => true,
-        Some(holder) => same_key(key, holder),
-    }
-}
-
-// Whether two places are one.
-fn same_place(a: Place, b: Place) -> bool
-    ensures { result ≡ same_place a b }
-{
-    match (a, b) {
-        (
-            Place::Slot { way, bucket, cell },
-            Place::Slot {
-                way: other_way,
-                bucket: other_bucket,
-                cell: other_cell,
-            },
-        ) => way == other_way && (bucket == other_bucket && cell == other_cell),
-        (Place::Row { row }, Place::Row { row: other_row }) => row == other_row,
-        (Place::Slot { .. }, Place::Row { .. }) => false,
-        (Place::Row { .. }, Place::Slot { .. }) => false,
+        Some(holder) => key.same(holder),
     }
 }
 
@@ -232,6 +213,6 @@ pub(crate) fn is_at(place: Place, held: Option<Place>) -> bool
 {
     match held {
         None => false,
-        Some(held) => same_place(place, held),
+        Some(held) => place.same(held),
     }
 }

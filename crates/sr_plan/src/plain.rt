@@ -9,7 +9,7 @@ ghost use Rattle.sr_shadow.specs.Plan.{IsUnplaced, entry_at, first_plan, first_u
 use crate::clear::is_mistaken_but;
 use crate::moves::{is_at, other_way};
 use crate::rows::key_rows;
-use crate::slots::{key_slots, same_key};
+use crate::slots::key_slots;
 use sr_base::{Key, Layout, Place, Version, layout_ranges};
 use sr_hash::{bucket, clashes};
 use sr_shadow::{Entry, Plan, Shadow};
@@ -167,7 +167,7 @@ fn is_rival(layout: &Layout, way: u8, key: Key, entry: &Entry) -> bool
         Some(Place::Row { .. }) => false,
         _ => true,
     };
-    outside && (!same_key(key, entry.key) && clashes(layout.shape(), way, key, entry.key))
+    outside && (!key.same(entry.key) && clashes(layout.shape(), way, key, entry.key))
 }
 
 // Whether the key's packets are taken for those of no entry but, perhaps, that of one other key.
@@ -301,7 +301,7 @@ fn is_registered(es: &[Entry], key: Key) -> bool
     ensures { result ≡ is_registered key es.now }
 {
     for entry in es {
-        if same_key(key, entry.key) {
+        if key.same(entry.key) {
             return true;
         }
     }
@@ -340,7 +340,7 @@ fn moved_if(other: Key, to: Place, entry: &Entry) -> Entry
     ensures { result ≡ moved_if other to entry.now }
 {
     let mut moved = *entry;
-    if same_key(other, entry.key) {
+    if other.same(entry.key) {
         moved.place = Some(to);
         moved.also = None;
     }

@@ -1,17 +1,9 @@
 ghost use Rattle.std.specs.Prelude.{◌≡◌, ◌≤◌, find};
-ghost use Rattle.sr_shadow.specs.Entry.{same_key};
 ghost use Rattle.sr_shadow.specs.Plan.{first_usable, is_free, key_slots, slots_in, slots_of};
 
 use sr_base::{Key, Layout, Place, layout_ranges};
 use sr_hash::bucket;
 use sr_shadow::Shadow;
-
-// Whether two keys are one.
-pub(crate) fn same_key(a: Key, b: Key) -> bool
-    ensures { result ≡ same_key a b }
-{
-    a.vip == b.vip && (a.ip == b.ip && a.port == b.port)
-}
 
 // The four slots of a bucket.
 fn slots_in(way: u8, bucket: u32) -> [Place; 4]

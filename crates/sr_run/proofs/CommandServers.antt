@@ -3,24 +3,18 @@ use Rattle.std.proofs.Common.{◌≡◌, ℕ, ◌≤◌, Bool, true, false, cond
 use Rattle.std.specs.Prelude.{nat_le, option_and_then, option_map}
 use Rattle.std.specs.Str.{bytes_eq}
 use Rattle.std.specs.List.{list_any, slice_split}
+use Rattle.std.proofs.lemmas.Bool.{and_parts}
 use Rattle.std.proofs.lemmas.Option.{cond_some}
 use Rattle.sr_script.specs.Address.{address_of}
 use Rattle.sr_run.specs.Command.{Command, One, Make, Audit, IsInRange, begins_with_dash, command_of, command_of_plain, make_of, one_of}
 use Rattle.sr_run.specs.Numbers.{count_of_packets, number_of, packets_in}
 use Rattle.sr_run.specs.Servers.{addresses_of, all_differ, counted, count_of_servers}
 
-both_true : (a b : Bool) → (a && b) ≡ true → a ≡ true
-both_true true b e = refl
-both_true false b e = e
-
-second_true : (a b : Bool) → (a && b) ≡ true → b ≡ true
-second_true true b e = e
-second_true false b e = absurd cc
-
 counted_some : (known : List (ℕ × ℕ)) (n : ℕ) → counted known ≡ Some n → 1 ≤ n
 counted_some known n e =
     let found = cond_some (nat_le 1 (length known) && nat_le (length known) 255 && all_differ known) (length known) n e in
-    let some = both_true (nat_le 1 (length known)) (nat_le (length known) 255) (both_true (nat_le 1 (length known) && nat_le (length known) 255) (all_differ known) found.0) in
+    let range = (and_parts (nat_le 1 (length known) && nat_le (length known) 255) (all_differ known) found.0).0 in
+    let some = (and_parts (nat_le 1 (length known)) (nat_le (length known) 255) range).0 in
     omega (arith, leb-true, some, found.1)
 
 chain_some : (o : Option (List (ℕ × ℕ))) (n : ℕ) → option_and_then counted o ≡ Some n → 1 ≤ n
@@ -39,9 +33,8 @@ one_some (Some v) (Some n) c some e = let same : One v n ≡ c = cc in subst IsI
 packets_some : (n p : ℕ) → packets_in n ≡ Some p → (1 ≤ p) × (p ≤ 4194304)
 packets_some n p e =
     let found = cond_some (nat_le 1 n && nat_le n 4194304) n p e in
-    let low = both_true (nat_le 1 n) (nat_le n 4194304) found.0 in
-    let high = second_true (nat_le 1 n) (nat_le n 4194304) found.0 in
-    (omega (arith, leb-true, low, found.1), omega (arith, leb-true, high, found.1))
+    let range = and_parts (nat_le 1 n) (nat_le n 4194304) found.0 in
+    (omega (arith, leb-true, range.0, found.1), omega (arith, leb-true, range.1, found.1))
 
 chain_packets : (o : Option ℕ) (p : ℕ) → option_and_then packets_in o ≡ Some p → (1 ≤ p) × (p ≤ 4194304)
 chain_packets None p e = absurd cc

@@ -6,7 +6,7 @@ use Rattle.std.proofs.lemmas.List.{reverse-append}
 use Rattle.std.proofs.lemmas.List.FromFn.{get_or-range_with_len, length-range_with_len}
 use Rattle.std.proofs.lemmas.List.Sums.{sum_by-append, sum_by-cons}
 use Rattle.std.proofs.lemmas.Bool.{eq-eqb, ne_eqb, and_from, lt-ltb, le-ltb, le-leb, lt-leb}
-use Rattle.sr_base.specs.Key.{KeyView}
+use Rattle.sr_base.specs.Key.{KeyView, same_key}
 use Rattle.sr_base.specs.declared.kind.Kind.{Kind}
 use Rattle.sr_base.specs.declared.kind.Kind.TheVariants.{Opener, Carry, Ending}
 use Rattle.sr_base.specs.declared.packet.Packet.{Packet}
@@ -19,7 +19,6 @@ use Rattle.sr_law.specs.Cause.{meets_cause}
 use Rattle.sr_law.specs.Final.{packets_of, same_packet, is_as_often, all_held_answered, answer_is_held, meets_final}
 use Rattle.sr_law.specs.Given.{has_pool, last_given, last_version}
 use Rattle.sr_law.specs.Groups.{keeps_groups}
-use Rattle.sr_law.specs.Keys.{same_key}
 use Rattle.sr_law.specs.Lawful.{broken, IsLawful, NoLineBreaks}
 use Rattle.sr_law.specs.Newer.{last_switched, is_new_pool, meets_newer}
 use Rattle.sr_law.specs.Number.{meets_number}

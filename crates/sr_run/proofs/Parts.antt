@@ -1,10 +1,10 @@
 -- The library takes the words of every command, and its parts are those words.
-use Rattle.std.proofs.Common.{◌≡◌, ◌<◌, ◌+◌, ◌++◌, ℕ, Bool, true, false, cond, not, ◌&&◌, ◌||◌, List, [], ◌∷◌, Option, Some, None, option_map, map, drop, length, get_or, codes, refl, sym, ap, ◌∙◌, subst, add-one, drop-cons, append_assoc}
+use Rattle.std.proofs.Common.{◌≡◌, ◌<◌, ◌+◌, ◌++◌, ℕ, Bool, true, false, cond, List, [], ◌∷◌, Option, Some, None, option_map, map, drop, length, get_or, codes, refl, sym, ap, ◌∙◌, subst, add-one, drop-cons, append_assoc}
 use Rattle.std.specs.Borrow.{Bor}
 use Rattle.std.specs.List.{list_any}
 use Rattle.std.specs.Prelude.{IsSome}
 use Rattle.std.specs.Str.{bytes_eq}
-use Rattle.std.proofs.lemmas.Bool.{false≢true}
+use Rattle.std.proofs.lemmas.Bool.{false≢true, and_parts, not-true, or_parts}
 use Rattle.std.proofs.lemmas.Slice.Eq.{bytes_eq-Decides}
 use Rattle.clap.specs.Words.{App, Row, first_value, is_simple, rows_of, subcommand_name_of, subcommand_of, subcommand_rows_of, takes, with_rule, with_subcommand, new_app, new_rule, app_of, AddsSubcommand}
 use Rattle.clap.specs.declared.parser.matches.ArgMatches.{ArgMatches}
@@ -76,10 +76,6 @@ one_parts first second e f = record { taken = one_taken first second e f; same =
 make_parts : (first second : List ℕ) → begins_with_dash first ≡ false → begins_with_dash second ≡ false → Parts (codes "make" ∷ first ∷ second ∷ [])
 make_parts first second e f = record { taken = make_taken first second e f; same = make_same first second e f }
 
-either_false : (a b : Bool) → (a || b) ≡ false → (a ≡ false) × (b ≡ false)
-either_false true b e = absurd cc
-either_false false b e = (refl, e)
-
 -- the name is that of the command
 named : (name known : List ℕ) (arguments : List (List ℕ)) → bytes_eq name known ≡ true → Parts (known ∷ arguments) → Parts (name ∷ arguments)
 named name known arguments e parts = subst (λ n. Parts (n ∷ arguments)) (sym ((bytes_eq-Decides name known).0 e)) parts
@@ -107,13 +103,13 @@ plain_parts : (words : List (List ℕ)) → list_any begins_with_dash words ≡ 
 plain_parts [] e some = absurd (false≢true some)
 plain_parts (name ∷ []) e some = absurd (false≢true some)
 plain_parts (name ∷ script ∷ []) e some =
-    let one = either_false _ _ e in
-    let two = either_false _ _ one.1 in
+    let one = or_parts _ _ e in
+    let two = or_parts _ _ one.1 in
     two_parts name script two.0 some
 plain_parts (name ∷ first ∷ second ∷ []) e some =
-    let one = either_false _ _ e in
-    let two = either_false _ _ one.1 in
-    let three = either_false _ _ two.1 in
+    let one = or_parts _ _ e in
+    let two = or_parts _ _ one.1 in
+    let three = or_parts _ _ two.1 in
     three_parts name first second two.0 three.0 some
 plain_parts (name ∷ first ∷ second ∷ fourth ∷ rest) e some = absurd (false≢true some)
 
@@ -158,23 +154,15 @@ arguments_plain : (a : App) (names : List (List ℕ)) → (with_arguments a name
 arguments_plain a [] = refl
 arguments_plain a (name ∷ names) = arguments_plain (with_rule a (new_rule name)) names
 
-both_true : (a b : Bool) → (a && b) ≡ true → (a ≡ true) × (b ≡ true)
-both_true true b e = (refl, e)
-both_true false b e = absurd cc
-
-not_true : (a : Bool) → not a ≡ true → a ≡ false
-not_true true e = absurd cc
-not_true false e = refl
-
 -- a command of the table was added
 pub added : (old sub new : Command) (form : List ℕ × List (List ℕ)) → AddsSubcommand old sub new → app_of sub ≡ command_of_form form
     → app_of new ≡ with_subcommand (app_of old) (command_of_form form).top
 added old sub new form adds is =
     let plain : (app_of sub).top.is_plain ≡ true = ap (λ a. a.top.is_plain) is ∙ arguments_plain (new_app form.0) form.1 in
-    let outer = both_true _ _ plain in
-    let inner = both_true _ _ outer.1 in
-    let third = both_true _ _ inner.1 in
-    adds.shape (not_true _ third.0) ∙ ap (λ a. with_subcommand (app_of old) a.top) is
+    let outer = and_parts _ _ plain in
+    let inner = and_parts _ _ outer.1 in
+    let third = and_parts _ _ inner.1 in
+    adds.shape (not-true _ third.0) ∙ ap (λ a. with_subcommand (app_of old) a.top) is
 
 before_more : (old : List (List ℕ)) (o : Option (List ℕ)) (rest : List (List ℕ)) → (old ++ before o []) ++ rest ≡ old ++ before o rest
 before_more old None rest = append_assoc old [] rest

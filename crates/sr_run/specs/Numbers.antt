@@ -1,12 +1,7 @@
 -- Numbers on the command line: 1 to 20 decimal digits, below 2^64. Leading zeros are digits.
-use Rattle.std.specs.Prelude.{ℕ, ◌+◌, ◌-◌, ◌*◌, ◌^◌, ◌&&◌, nat_le, nat_lt, if◌then◌else◌, List, [], ◌∷◌, length, Option, Some, None, option_and_then}
+use Rattle.std.specs.Prelude.{ℕ, ◌^◌, ◌&&◌, nat_le, nat_lt, if◌then◌else◌, List, length, Option, Some, None, option_and_then}
 use Rattle.std.specs.List.{list_all}
-use Rattle.sr_script.specs.Address.{is_digit}
-
--- the number that goes on from n with these digits
-abbrev pub value_from : ℕ → List ℕ → ℕ
-value_from n [] = n
-value_from n (digit ∷ digits) = value_from (10 * n + (digit - 48)) digits
+use Rattle.sr_decimal.specs.Front.{is_digit, value_from}
 
 -- the number, if it is below 2^64
 abbrev pub fitting : ℕ → Option ℕ

@@ -1,7 +1,7 @@
 ghost use Rattle.std.specs.Prelude.{◌≡◌, ◌≤◌, IfSome};
 ghost use Rattle.std.specs.List.{list_all};
-ghost use Rattle.sr_run.specs.Numbers.{count_of_packets, fitting, number_of, packets_in, value_from};
-ghost use Rattle.sr_script.specs.Address.{is_digit};
+ghost use Rattle.sr_run.specs.Numbers.{count_of_packets, fitting, number_of, packets_in};
+ghost use Rattle.sr_decimal.specs.Front.{is_digit, value_from};
 
 /// The number that a word spells: 1 to 20 decimal digits, below 2^64. None for every other word.
 #[tactic(auto, unfolding(crate::specs::Numbers::number_of))]

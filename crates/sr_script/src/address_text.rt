@@ -1,5 +1,7 @@
-ghost use Rattle.std.specs.Prelude.{◌≡◌, ◌≤◌, ◌^◌, ◌<◌, option_map, IfSome};
-ghost use Rattle.sr_script.specs.Address.{digits_on, number_front, after_byte, part_front, port_of, address_of};
+ghost use Rattle.std.specs.Prelude.{◌≡◌, ◌≤◌, option_map, IfSome};
+ghost use Rattle.sr_script.specs.Address.{after_byte, part_front, port_of, address_of};
+
+use sr_decimal::number_front;
 
 /// The IPv4 address and the port of a text `a.b.c.d:p`: four numbers 0 to 255 and a port 1 to 65,535, in decimal digits without leading
 /// zeros. None for every other text.
@@ -23,7 +25,7 @@ fn part_front(separator: u8, bytes: &[u8]) -> Option<(u32, &[u8])>
 {
     let (part, rest) = number_front(255, bytes)?;
     let rest = after_byte(separator, rest)?;
-    Some((part, rest))
+    Some((part as u32, rest))
 }
 
 // The port, with which the text ends.
@@ -47,40 +49,4 @@ fn after_byte(byte: u8, bytes: &[u8]) -> Option<&[u8]>
         [first, rest @ ..] if *first == byte => Some(rest),
         _ => None,
     }
-}
-
-// The number at the front, without leading zeros and at most `most`, and what follows it.
-fn number_front(most: u16, bytes: &[u8]) -> Option<(u32, &[u8])>
-    ensures value { option_map (λ x. (x.0, x.1.now)) result ≡ number_front most bytes.now }
-    ensures bound { IfSome result (λ x. x.0 ≤ most) }
-{
-    match bytes {
-        [b'0', rest @ ..] => Some((0, rest)),
-        [first @ b'1'..=b'9', rest @ ..] if (*first - b'0') as u16 <= most => digits_on(
-            most,
-            (*first - b'0') as u32,
-            rest,
-        ),
-        _ => None,
-    }
-}
-
-// The number that goes on from `start` with the digits at the front, at most `most`, and what follows them.
-fn digits_on(most: u16, start: u32, bytes: &[u8]) -> Option<(u32, &[u8])>
-    requires { start ≤ most }
-    ensures value { option_map (λ x. (x.0, x.1.now)) result ≡ digits_on most start bytes.now }
-    ensures bound { IfSome result (λ x. x.0 ≤ most) }
-{
-    let mut number = start;
-    for (i, byte) in bytes.iter().enumerate() {
-        if !byte.is_ascii_digit() {
-            return Some((number, &bytes[i..]));
-        }
-        let next = 10 * number + (*byte - b'0') as u32;
-        if next > most as u32 {
-            return None;
-        }
-        number = next;
-    }
-    Some((number, &[]))
 }

@@ -1,15 +1,13 @@
 -- What holds of every book is kept: with an entry more, with one in the place of another, with one less.
-use Rattle.std.proofs.Common.{◌≡◌, ℕ, ◌+◌, ◌^◌, ◌<◌, ◌≤◌, Bool, true, false, cond, ◌&&◌, ◌||◌, List, [], ◌∷◌, ◌++◌, length, find, count_by, Option, None, Some, is_some, option_map, refl, sym, ◌∙◌, ap, subst, true≢false, arith}
+use Rattle.std.proofs.Common.{◌≡◌, ℕ, ◌+◌, ◌≤◌, false, cond, List, [], ◌∷◌, ◌++◌, length, Option, None, Some, is_some, option_map, refl, sym, ◌∙◌, ap, subst, true≢false, arith}
 use Rattle.std.proofs.lemmas.Bool.Decides.{nat_tests}
-use Rattle.std.proofs.lemmas.Grind.{common_steps}
 use Rattle.std.proofs.lemmas.List.Folds.{list_any-append}
 use Rattle.std.proofs.lemmas.List.Sums.{sum_by-cons}
-use Rattle.std.specs.List.{list_any}
-use Rattle.sr_base.specs.Key.{KeyView, IsKey}
+use Rattle.sr_base.specs.Key.{KeyView, IsKey, same_key}
 use Rattle.sr_shadow.specs.Book.{entry_for, is_registered, count_of, AreKeys, DistinctKeys, TakenFrom}
-use Rattle.sr_shadow.specs.Entry.{is_of, has_version, same_key}
+use Rattle.sr_shadow.specs.Entry.{is_of, has_version}
 use Rattle.sr_shadow.specs.declared.entry.Entry.{Entry}
-use Rattle.sr_shadow.proofs.Lookups.{same_key-sym}
+use Rattle.sr_base.proofs.Sameness.{same_key-sym}
 
 -- whether a key is registered
 registered_swap : (key : KeyView) (front back : List Entry) (e f : Entry) → f.key ≡ e.key → is_registered key (front ++ f ∷ back) ≡ is_registered key (front ++ e ∷ back)

@@ -1,22 +1,22 @@
 -- Steps of the tallies of clashing keys.
-use Rattle.std.proofs.Common.{◌≡◌, ℕ, ◌+◌, ◌*◌, ◌-◌, ◌<◌, ◌≤◌, ◌^◌, ◌%◌, Bool, true, false, cond, ◌&&◌, List, [], ◌∷◌, ◌++◌, count_by, Option, None, Some, refl, sym, ◌∙◌, ap, subst, eqb, ltb, unwrap_or, arith}
+use Rattle.std.proofs.Common.{◌≡◌, ℕ, ◌+◌, ◌*◌, ◌<◌, ◌≤◌, ◌^◌, ◌%◌, Bool, true, false, cond, ◌&&◌, List, [], ◌∷◌, ◌++◌, count_by, Option, None, Some, refl, sym, ◌∙◌, ap, subst, eqb, ltb, unwrap_or, arith}
 use Rattle.std.proofs.lemmas.Bool.Decides.{nat_tests}
-use Rattle.std.proofs.lemmas.Grind.{common_steps}
 use Rattle.std.proofs.lemmas.List.Folds.{list_any-append}
 use Rattle.std.proofs.lemmas.List.Sums.{count_by-le-length, sum_by-cons}
 use Rattle.std.proofs.lemmas.Nat.{mod_below, pow_pos}
 use Rattle.std.proofs.Math.Nat.{pow-le-pow_right}
 use Rattle.std.specs.List.{list_any}
-use Rattle.sr_base.specs.Key.{KeyView}
+use Rattle.sr_base.specs.Key.{KeyView, same_key}
 use Rattle.sr_base.specs.declared.shape.Shape.{Shape}
 use Rattle.sr_hash.specs.Clash.{clashes}
 use Rattle.sr_hash.specs.Keyed.{hash_of}
 use Rattle.sr_hash.specs.Uses.{bucket_of, digest_of}
-use Rattle.sr_shadow.specs.Entry.{is_of, is_outside, same_key, stands_in}
+use Rattle.sr_shadow.specs.Entry.{is_of, is_outside, stands_in}
 use Rattle.sr_shadow.specs.Rivals.{class_of, is_member, is_outsider, no_tally, own_outside, tally_of, FewTallied, HasTallied, Tallied, IsClassed}
 use Rattle.sr_shadow.specs.declared.entry.Entry.{Entry}
 use Rattle.sr_shadow.specs.declared.tally.Tally.{Tally}
-use Rattle.sr_shadow.proofs.Splits.{Split, split, count_split, count_joined, registered_none, same_key-self}
+use Rattle.sr_base.proofs.Sameness.{same_key-self}
+use Rattle.sr_shadow.proofs.Splits.{Split, split, count_split, count_joined, registered_none}
 use Rattle.sr_shadow.specs.Book.{entry_for, is_registered, is_rival, is_clashing, is_stander, standing_of, DistinctKeys}
 
 -- numbers of three parts are one where the parts are
@@ -70,9 +70,9 @@ tallied_change shape way own class old new r before after a b x y u v fine is st
         by false t = grind (arith, nat_tests, same_class shape way key own fine, t, is, standers key, h.standing key)
 
 -- some pass a test where at least one is counted
-any_counted : (test : Entry → Bool) (es : List Entry) → list_any test es ≡ ltb 0 (count_by test es)
+pub any_counted : {X : Type 0} (test : X → Bool) (xs : List X) → list_any test xs ≡ ltb 0 (count_by test xs)
 any_counted test [] = refl
-any_counted test (e ∷ es) = grind (arith, nat_tests, any_counted test es, sum_by-cons (λ x. cond (test x) 1 0) e es)
+any_counted test (x ∷ xs) = grind (arith, nat_tests, any_counted test xs, sum_by-cons (λ x. cond (test x) 1 0) x xs)
 
 -- among entries of other keys the rivals are the outsiders
 others_rival : (shape : Shape) (way : ℕ) (key : KeyView) (es : List Entry) → is_registered key es ≡ false → is_clashing shape way key es ≡ list_any (is_outsider shape way key) es

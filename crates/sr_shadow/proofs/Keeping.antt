@@ -1,18 +1,15 @@
 -- The indexes stay those of the entries.
-use Rattle.std.proofs.Common.{◌≡◌, ℕ, zero, suc, ◌+◌, ◌^◌, ◌<◌, ◌≤◌, Bool, true, false, cond, ◌&&◌, List, [], ◌∷◌, ◌++◌, length, drop, map, find, count_by, get_or, Option, None, Some, is_some, option_map, refl, sym, ◌∙◌, ap, subst, true≢false, arith}
-use Rattle.std.proofs.lemmas.List.Sums.{count_by-le-length}
+use Rattle.std.proofs.Common.{◌≡◌, ℕ, zero, suc, ◌+◌, ◌^◌, ◌<◌, ◌≤◌, min, Bool, true, false, List, [], ◌∷◌, ◌++◌, length, drop, Option, None, Some, is_some, refl, sym, ap, subst, true≢false, arith}
 use Rattle.std.specs.Prelude.{slice_get, option_to_list}
 use Rattle.sr_base.specs.Key.{KeyView, IsKey}
 use Rattle.sr_base.specs.Layout.{LayoutView}
 use Rattle.sr_base.specs.declared.place.Place.{Place}
-use Rattle.sr_base.specs.declared.shape.Shape.{Shape}
-use Rattle.sr_hash.specs.Clash.{clashes}
-use Rattle.sr_shadow.specs.Book.{Book, entry_for, is_registered, with_changed, holder_of, count_of, DistinctKeys, IsBook}
-use Rattle.sr_shadow.specs.Counts.{cell_of, Counted}
-use Rattle.sr_shadow.specs.Entry.{has_version, holds, is_outside, stands_in, settled, left_other}
+use Rattle.sr_shadow.specs.Book.{Book, is_registered, holder_of, IsBook}
+use Rattle.sr_shadow.specs.Counts.{Counted}
+use Rattle.sr_shadow.specs.Entry.{holds, is_outside, stands_in, settled, left_other}
 use Rattle.sr_shadow.specs.Holders.{HeldBy}
 use Rattle.sr_shadow.specs.Numbers.{Numbered}
-use Rattle.sr_shadow.specs.Rivals.{is_member, is_outsider, Tallied, FewTallied}
+use Rattle.sr_shadow.specs.Rivals.{Tallied}
 use Rattle.sr_shadow.specs.Shadow.{IsShadow, HasRoom}
 use Rattle.sr_shadow.specs.declared.entry.Entry.{Entry}
 use Rattle.sr_shadow.specs.declared.tally.Tally.{Tally}
@@ -20,7 +17,6 @@ use Rattle.sr_shadow.proofs.Books.{distinct_more, distinct_swap, distinct_less, 
 use Rattle.sr_shadow.proofs.Classes.{tallied_same}
 use Rattle.sr_shadow.proofs.Lookups.{numbered_same}
 use Rattle.sr_shadow.proofs.Places.{holder_more, holder_same, held_alike, once_less, once_more, once_settled, once_left, once_without}
-use Rattle.sr_shadow.proofs.Splits.{Split, split, changed_split, count_split}
 use Rattle.sr_shadow.proofs.Tables.{counted_same}
 
 -- no more entries than numbers, and far fewer than 64 bits count
@@ -148,6 +144,16 @@ scan_on place (e ∷ es) (suc i) h = scan_on place es i h
 pub room_more : (ready : Option KeyView) (a b c d e f g h : ℕ) → a ≤ e → b ≤ f → c ≤ g → d ≤ h → HasRoom ready a b c d → HasRoom ready e f g h
 room_more None a b c d e f g h p q r s room = tt
 room_more (Some key) a b c d e f g h p q r s room = (omega (arith, p, room.0), omega (arith, q, room.1), omega (arith, r, room.2), omega (arith, s, room.3))
+
+-- of more room than for one so much stays as is asked for
+pub room_kept : (ready : Option KeyView) (more a b c d e f g h : ℕ) → 0 < more → min more a ≤ e → b ≤ f → c ≤ g → d ≤ h → HasRoom ready a b c d → HasRoom ready e f g h
+room_kept None more a b c d e f g h some p q r s room = tt
+room_kept (Some key) more a b c d e f g h some p q r s room = (omega (arith, p, room.0), omega (arith, q, room.1), omega (arith, r, room.2), omega (arith, s, room.3))
+
+-- room for two is room for one once the first is in
+pub room_left : (ready : Option KeyView) (a b c d e f g h : ℕ) → 2 ≤ a → 2 ≤ b → 2 ≤ c → 2 ≤ d → a ≤ e + 1 → b ≤ f + 1 → c ≤ g + 1 → d ≤ h + 1 → HasRoom ready e f g h
+room_left None a b c d e f g h p q r s t u v w = tt
+room_left (Some key) a b c d e f g h p q r s t u v w = (omega (arith, p, t), omega (arith, q, u), omega (arith, r, v), omega (arith, s, w))
 
 -- books with equal parts
 pub book_is : (l : LayoutView) (r : Option KeyView) (es fs : List Entry) (t u : ℕ) → es ≡ fs → t ≡ u

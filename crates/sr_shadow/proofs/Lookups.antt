@@ -1,22 +1,19 @@
 -- Steps of the map from keys to numbers.
-use Rattle.std.proofs.Common.{◌≡◌, ℕ, ◌+◌, ◌*◌, ◌-◌, ◌<◌, Bool, true, false, cond, ◌&&◌, List, [], ◌∷◌, ◌++◌, find, Option, None, Some, refl, sym, ◌∙◌, ap, subst, eqb, option_map, arith}
+use Rattle.std.proofs.Common.{◌≡◌, ℕ, Bool, true, false, cond, List, [], ◌∷◌, ◌++◌, Option, None, Some, refl, sym, ◌∙◌, ap, subst, eqb, option_map, arith}
 use Rattle.std.proofs.lemmas.Bool.Decides.{nat_tests}
 use Rattle.std.proofs.lemmas.List.Folds.{find-append}
-use Rattle.std.proofs.lemmas.Grind.{common_steps}
 use Rattle.std.specs.Option.{option_or}
-use Rattle.sr_base.specs.Key.{KeyView, IsKey, packed}
+use Rattle.sr_base.specs.Key.{KeyView, IsKey, packed, same_key}
 use Rattle.sr_shadow.specs.Book.{entry_for, is_registered}
-use Rattle.sr_shadow.specs.Entry.{is_of, same_key}
+use Rattle.sr_shadow.specs.Entry.{is_of}
 use Rattle.sr_shadow.specs.Numbers.{Numbered}
 use Rattle.sr_shadow.specs.declared.entry.Entry.{Entry}
-use Rattle.sr_shadow.proofs.Splits.{entry_for_none, same_key-true, same_key-self}
+use Rattle.sr_base.proofs.Sameness.{same_key-true, same_key-self, same_key-sym}
+use Rattle.sr_shadow.proofs.Splits.{entry_for_none}
 
 -- keys are one where their packed numbers are
 pub same_packed : (a b : KeyView) → IsKey a → IsKey b → eqb (packed a) (packed b) ≡ same_key a b
 same_packed a b ha hb = grind (arith, nat_tests, ha.ip, ha.port, hb.ip, hb.port)
-
-pub same_key-sym : (a b : KeyView) → same_key a b ≡ same_key b a
-same_key-sym a b = grind (arith, nat_tests)
 
 -- one more
 pub numbered_more : (old new : ℕ → Option ℕ) (own : KeyView) (code number : ℕ) (es : List Entry) (e : Entry) → code ≡ packed own → IsKey own → e.key ≡ own → e.taken ≡ number → is_registered own es ≡ false

@@ -1,11 +1,12 @@
 -- Who holds a place, around an entry; and steps of the table of holders.
-use Rattle.std.proofs.Common.{◌≡◌, ℕ, ◌+◌, ◌*◌, ◌-◌, ◌<◌, ◌≤◌, Bool, true, false, cond, not, ◌&&◌, ◌||◌, List, [], ◌∷◌, ◌++◌, length, set, get_or, find, sum_by, Option, None, Some, is_some, option_map, refl, sym, ◌∙◌, ap, subst, true≢false, eqb, ltb, arith}
+use Rattle.std.proofs.Common.{◌≡◌, ℕ, ◌+◌, ◌*◌, ◌-◌, ◌<◌, ◌≤◌, Bool, true, false, cond, List, [], ◌∷◌, ◌++◌, length, set, get_or, find, sum_by, Option, None, Some, is_some, option_map, refl, sym, ◌∙◌, ap, subst, true≢false, eqb, arith}
 use Rattle.std.proofs.lemmas.Bool.Decides.{nat_tests}
-use Rattle.std.proofs.lemmas.Grind.{common_steps, get_or-set_at}
+use Rattle.std.proofs.lemmas.Grind.{common_steps}
 use Rattle.std.proofs.lemmas.List.Folds.{find-append}
 use Rattle.std.proofs.lemmas.List.Sums.{sum_by-append, sum_by-cons}
 use Rattle.sr_base.specs.Key.{KeyView}
 use Rattle.sr_base.specs.Layout.{LayoutView}
+use Rattle.sr_base.specs.Place.{same_place}
 use Rattle.sr_base.specs.WordName.{HasPlace, HasWord, NamesApart, entries_of, entry_number, place_of}
 use Rattle.sr_base.specs.declared.place.Place.{Place}
 use Rattle.sr_base.specs.declared.place.Place.TheVariants.{Slot, Row}
@@ -13,20 +14,10 @@ use Rattle.sr_base.specs.declared.shape.Shape.{Shape}
 use Rattle.sr_base.specs.declared.word_name.WordName.{WordName}
 use Rattle.sr_base.specs.declared.word_name.WordName.TheVariants as word
 use Rattle.sr_shadow.specs.Book.{holder_of, HeldOnce}
-use Rattle.sr_shadow.specs.Entry.{holds, times_held, is_at, same_place, settled, left_other}
+use Rattle.sr_shadow.specs.Entry.{holds, times_held, is_at, settled, left_other}
 use Rattle.sr_shadow.specs.Holders.{HeldBy, name_of}
 use Rattle.sr_shadow.specs.declared.entry.Entry.{Entry}
-
--- equal parts, equal places
-pub same_place-true : (a b : Place) → same_place a b ≡ true → a ≡ b
-same_place-true (Slot w b c) (Slot v d e) h = grind (arith, nat_tests)
-same_place-true (Slot w b c) (Row r) h = absurd (true≢false (sym h))
-same_place-true (Row r) (Slot w b c) h = absurd (true≢false (sym h))
-same_place-true (Row r) (Row s) h = grind (arith, nat_tests)
-
-pub same_place-self : (a : Place) → same_place a a ≡ true
-same_place-self (Slot w b c) = grind (arith, nat_tests)
-same_place-self (Row r) = grind (arith, nat_tests)
+use Rattle.sr_base.proofs.Sameness.{same_place-true, same_place-self}
 
 -- a layout's places have numbers of their own, below the number of them all
 slot_below : (buckets way bucket cell : ℕ) → 1 ≤ way → way ≤ 2 → bucket < buckets → cell < 4 → ((way - 1) * buckets + bucket) * 4 + cell < 8 * buckets
@@ -106,37 +97,28 @@ pub once_left : (front back : List Entry) (e : Entry) → HeldOnce (front ++ e �
 once_left front back e once = once_less front back e (left_other e) once (left_holds e)
 
 -- an entry that gives up its other place
-pub holder_left : (place : Place) (front back : List Entry) (e : Entry) → HeldOnce (front ++ e ∷ back) → e.also ≡ Some place
-    → (other : Place) → holder_of other (front ++ left_other e ∷ back) ≡ cond (same_place other place) None (holder_of other (front ++ e ∷ back))
-holder_left place front back e once held other = by (same_place other place) refl
+pub holder_left : (front back : List Entry) (e : Entry) → HeldOnce (front ++ e ∷ back)
+    → (other : Place) → holder_of other (front ++ left_other e ∷ back) ≡ cond (is_at other e.also) None (holder_of other (front ++ e ∷ back))
+holder_left front back e once other = by (is_at other e.also) refl
   where
-    by : (b : Bool) → same_place other place ≡ b → holder_of other (front ++ left_other e ∷ back) ≡ cond b None (holder_of other (front ++ e ∷ back))
-    by true t =
-        let mine : is_at other e.also ≡ true = ap (is_at other) held ∙ t in
+    by : (b : Bool) → is_at other e.also ≡ b → holder_of other (front ++ left_other e ∷ back) ≡ cond b None (holder_of other (front ++ e ∷ back))
+    by true mine =
         let alone : is_at other e.place ≡ false = grind (arith, once other, mine, sum_split (times_held other) front back e) in
         let gone : holder_of other (front ++ back) ≡ None = held_elsewhere other front back e once (grind (arith, mine)) in
         grind (arith, holder_split other front back (left_other e) (once_left front back e once), alone, gone)
-    by false t =
-        let no : is_at other e.also ≡ false = ap (is_at other) held ∙ t in
-        grind (arith, no, holder_split other front back e once, holder_split other front back (left_other e) (once_left front back e once))
+    by false none = grind (arith, none, holder_split other front back e once, holder_split other front back (left_other e) (once_left front back e once))
 
--- one that held no other place stays as it was
-pub left_none : (e : Entry) → e.also ≡ None → left_other e ≡ e
-left_none e h = grind arith
-
--- an entry that goes, with its place
-pub holder_gone : (place : Place) (front back : List Entry) (e : Entry) → HeldOnce (front ++ e ∷ back) → e.also ≡ None → e.place ≡ Some place
-    → (other : Place) → holder_of other (front ++ back) ≡ cond (same_place other place) None (holder_of other (front ++ e ∷ back))
-holder_gone place front back e once alone held other = by (same_place other place) refl
+-- an entry that has left its other place, and goes from its own
+pub holder_gone : (e : Entry) (front back : List Entry) → HeldOnce (front ++ e ∷ back)
+    → (other : Place) → holder_of other (front ++ back) ≡ cond (is_at other e.place) None (holder_of other (front ++ left_other e ∷ back))
+holder_gone e front back once other = by (is_at other e.place) refl
   where
-    by : (b : Bool) → same_place other place ≡ b → holder_of other (front ++ back) ≡ cond b None (holder_of other (front ++ e ∷ back))
-    by true t = held_elsewhere other front back e once (grind (arith, ap (is_at other) held ∙ t))
-    by false t = grind (arith, alone, ap (is_at other) held ∙ t, holder_split other front back e once)
+    left : HeldOnce (front ++ left_other e ∷ back)
+    left = once_left front back e once
 
--- without one
-pub holder_none : (front back : List Entry) (e : Entry) → HeldOnce (front ++ e ∷ back) → e.also ≡ None → e.place ≡ None
-    → (other : Place) → holder_of other (front ++ back) ≡ holder_of other (front ++ e ∷ back)
-holder_none front back e once alone held other = grind (arith, alone, held, holder_split other front back e once)
+    by : (b : Bool) → is_at other e.place ≡ b → holder_of other (front ++ back) ≡ cond b None (holder_of other (front ++ left_other e ∷ back))
+    by true mine = held_elsewhere other front back (left_other e) left (grind (arith, mine))
+    by false none = grind (arith, none, holder_split other front back (left_other e) left)
 
 -- an entry in the place of another with the same key and places
 pub holder_same : (place : Place) (front back : List Entry) (e f : Entry) → f.key ≡ e.key → f.place ≡ e.place → f.also ≡ e.also

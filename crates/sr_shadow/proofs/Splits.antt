@@ -1,21 +1,13 @@
 -- Around the entry of a key the list of entries is a front, that entry and a back, with no other entry of the key.
-use Rattle.std.proofs.Common.{◌≡◌, ℕ, ◌+◌, Bool, true, false, cond, ◌&&◌, ◌||◌, not, List, [], ◌∷◌, ◌++◌, map, filter, find, count_by, Option, None, Some, refl, sym, ◌∙◌, ap, subst, true≢false, is_some, if◌then◌else◌, arith}
-use Rattle.std.proofs.lemmas.Bool.Decides.{nat_tests}
+use Rattle.std.proofs.Common.{◌≡◌, ◌+◌, Bool, true, false, cond, ◌||◌, not, List, [], ◌∷◌, ◌++◌, find, count_by, None, Some, refl, sym, ◌∙◌, ap, subst, true≢false, is_some, if◌then◌else◌, arith}
 use Rattle.std.proofs.lemmas.List.{map-append}
 use Rattle.std.proofs.lemmas.List.Elements.{filter-append}
 use Rattle.std.proofs.lemmas.List.Sums.{sum_by-append, sum_by-cons}
-use Rattle.std.specs.List.{list_any}
 use Rattle.sr_base.specs.Key.{KeyView}
 use Rattle.sr_shadow.specs.Book.{entry_for, is_registered, with_changed, without_key, DistinctKeys}
-use Rattle.sr_shadow.specs.Entry.{is_of, same_key}
+use Rattle.sr_shadow.specs.Entry.{is_of}
 use Rattle.sr_shadow.specs.declared.entry.Entry.{Entry}
-
--- equal parts, equal keys
-pub same_key-true : (a b : KeyView) → same_key a b ≡ true → a ≡ b
-same_key-true a b h = grind (arith, nat_tests)
-
-pub same_key-self : (a : KeyView) → same_key a a ≡ true
-same_key-self a = grind (arith, nat_tests)
+use Rattle.sr_base.proofs.Sameness.{same_key-true, same_key-self}
 
 -- one entry where both are the one that was found
 pub some_same : (a b : Entry) → Some a ≡ Some b → a ≡ b

@@ -1,9 +1,8 @@
 -- Steps of the table of counts.
-use Rattle.std.proofs.Common.{◌≡◌, ℕ, ◌+◌, ◌*◌, ◌-◌, ◌^◌, ◌<◌, ◌≤◌, Bool, true, false, cond, ◌&&◌, List, [], ◌∷◌, ◌++◌, length, set, get_or, count_by, refl, sym, ◌∙◌, ap, eqb, arith}
+use Rattle.std.proofs.Common.{◌≡◌, ℕ, ◌+◌, ◌-◌, ◌^◌, ◌<◌, ◌≤◌, List, [], ◌∷◌, ◌++◌, length, set, get_or, refl, sym, ◌∙◌, arith}
 use Rattle.std.proofs.lemmas.Bool.Decides.{nat_tests}
 use Rattle.std.proofs.lemmas.List.Sums.{count_by-le-length}
-use Rattle.std.proofs.lemmas.Grind.{common_steps, get_or-set_at}
-use Rattle.sr_shadow.specs.Book.{count_of}
+use Rattle.std.proofs.lemmas.Grind.{common_steps}
 use Rattle.sr_shadow.specs.Counts.{cell_of, Counted, FewCounted, HasCounted}
 use Rattle.sr_shadow.specs.Entry.{has_version}
 use Rattle.sr_shadow.specs.declared.entry.Entry.{Entry}

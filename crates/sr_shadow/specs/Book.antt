@@ -1,7 +1,7 @@
 -- The controller's book: the entries of the registered keys in the order of taking. A key is registered where an entry is its.
-use Rattle.std.specs.Prelude.{◌≡◌, ℕ, ◌+◌, ◌^◌, ◌<◌, ◌≤◌, Bool, true, false, not, ◌&&◌, nat_le, List, [], ◌∷◌, ◌++◌, map, filter, find, count_by, sum_by, is_some, Option, Some, None, option_map, if◌then◌else◌}
+use Rattle.std.specs.Prelude.{◌≡◌, ℕ, ◌+◌, ◌^◌, ◌≤◌, Bool, true, false, not, ◌&&◌, nat_le, List, [], ◌∷◌, ◌++◌, map, filter, find, count_by, sum_by, is_some, Option, Some, None, option_map, if◌then◌else◌}
 use Rattle.std.specs.List.{list_any}
-use Rattle.sr_base.specs.Key.{KeyView, IsKey}
+use Rattle.sr_base.specs.Key.{KeyView, IsKey, same_key}
 use Rattle.sr_base.specs.Layout.{LayoutView}
 use Rattle.sr_base.specs.declared.place.Place.{Place}
 use Rattle.sr_base.specs.declared.shape.Shape.{Shape}
@@ -72,12 +72,21 @@ opened layout = record { layout = layout; entries = []; taken = 0; ready = None 
 abbrev pub reserved_for : KeyView → Book → Book
 reserved_for key book = record book { ready = Some key }
 
--- the key is registered; a registered key's book stays as it is
+-- room was made for this key
+abbrev pub is_ready : KeyView → Option KeyView → Bool
+is_ready key None = false
+is_ready key (Some ready) = same_key key ready
+
+-- the room that is left once a key is taken: the key's own is used, another key's stays
+abbrev pub ready_after : KeyView → Option KeyView → Option KeyView
+ready_after key ready = if is_ready key ready then None else ready
+
+-- the key is registered, as the last entry
 abbrev pub with_new : KeyView → ℕ → Book → Book
 with_new key version book = record book {
   entries = book.entries ++ fresh key version book.taken ∷ [];
   taken = book.taken + 1;
-  ready = None;
+  ready = ready_after key book.ready;
 }
 
 abbrev pub with_closed : KeyView → Book → Book

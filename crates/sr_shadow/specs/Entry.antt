@@ -1,21 +1,10 @@
 -- An entry of the book, and what becomes of it.
 use Rattle.std.specs.Prelude.{ℕ, ◌+◌, min, Bool, true, false, cond, ◌&&◌, ◌||◌, ◌==◌, not, is_some, is_none, if◌then◌else◌, Option, Some, None}
-use Rattle.sr_base.specs.Key.{KeyView}
+use Rattle.sr_base.specs.Key.{KeyView, same_key}
+use Rattle.sr_base.specs.Place.{same_place}
 use Rattle.sr_base.specs.declared.place.Place.{Place}
 use Rattle.sr_base.specs.declared.place.Place.TheVariants.{Slot, Row}
 use Rattle.sr_shadow.specs.declared.entry.Entry.{Entry}
-
--- two keys are one
-abbrev pub same_key : KeyView → KeyView → Bool
-same_key a b = (a.vip == b.vip) && ((a.ip == b.ip) && (a.port == b.port))
-
--- two places are one
-abbrev pub same_place : Place → Place → Bool
-same_place (Slot way bucket cell) (Slot other_way other_bucket other_cell) =
-    (way == other_way) && ((bucket == other_bucket) && (cell == other_cell))
-same_place (Slot way bucket cell) (Row row) = false
-same_place (Row row) (Slot way bucket cell) = false
-same_place (Row row) (Row other_row) = row == other_row
 
 -- the place, if there is one, is this one
 abbrev pub is_at : Place → Option Place → Bool

@@ -1,5 +1,5 @@
 -- Who holds each place of a layout, as a table in the order of the places: the cells of the connection table, then the rows of full keys.
-use Rattle.std.specs.Prelude.{◌≡◌, ℕ, List, length, slice_index_or, Option, None}
+use Rattle.std.specs.Prelude.{◌≡◌, List, length, slice_index_or, Option, None}
 use Rattle.sr_base.specs.Key.{KeyView}
 use Rattle.sr_base.specs.WordName.{HasPlace, entries_of, entry_number}
 use Rattle.sr_base.specs.declared.place.Place.{Place}

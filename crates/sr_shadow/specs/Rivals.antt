@@ -1,6 +1,6 @@
 -- Of one way, how many registered keys are in each class of keys that clash, how many of them are outside the full-key table, and how many
 -- stand in a slot of the way.
-use Rattle.std.specs.Prelude.{◌≡◌, ℕ, ◌+◌, ◌*◌, ◌≤◌, ◌<◌, ◌^◌, Bool, ◌&&◌, List, ◌∷◌, ◌++◌, length, Option, Some, None, cond, unwrap_or, count_by}
+use Rattle.std.specs.Prelude.{◌≡◌, ℕ, ◌+◌, ◌*◌, ◌≤◌, ◌^◌, Bool, ◌&&◌, List, ◌∷◌, ◌++◌, length, Option, Some, None, cond, unwrap_or, count_by}
 use Rattle.sr_base.specs.Key.{KeyView}
 use Rattle.sr_base.specs.declared.shape.Shape.{Shape}
 use Rattle.sr_hash.specs.Clash.{clashes}

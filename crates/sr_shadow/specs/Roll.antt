@@ -1,5 +1,5 @@
 -- The entries in the order of taking, as slots: each has the number of its entry, and the entry, or nothing once that is out.
-use Rattle.std.specs.Prelude.{◌≡◌, ℕ, ◌+◌, ◌≤◌, ◌<◌, min, Bool, true, false, not, List, [], ◌∷◌, ◌++◌, option_to_list, map, filter, filter_map, take, is_some, Option, None, Some, slice_get, option_and_then, MatchOption}
+use Rattle.std.specs.Prelude.{◌≡◌, ℕ, ◌+◌, ◌≤◌, min, Bool, false, List, [], ◌∷◌, ◌++◌, option_to_list, map, filter, filter_map, take, is_some, Option, None, Some, slice_get, option_and_then}
 use Rattle.sr_shadow.specs.Entry.{is_pending, is_placed}
 use Rattle.sr_shadow.specs.declared.entry.Entry.{Entry}
 use Rattle.sr_shadow.specs.declared.standing.Standing.{Standing}

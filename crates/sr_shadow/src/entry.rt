@@ -1,5 +1,5 @@
 ghost use Rattle.std.specs.Prelude.{◌≡◌, cond};
-ghost use Rattle.sr_shadow.specs.Entry.{holds, is_at, is_outside, quiet_after, same_place, stands_in};
+ghost use Rattle.sr_shadow.specs.Entry.{holds, is_at, is_outside, quiet_after, stands_in};
 
 use sr_base::{Key, Place, Version};
 
@@ -34,26 +34,8 @@ fn is_at(held: Option<Place>, place: Place) -> bool
     ensures { result ≡ is_at place held }
 {
     match held {
-        Some(held) => is_same(place, held),
+        Some(held) => place.same(held),
         None => false,
-    }
-}
-
-// Whether two places are one.
-fn is_same(a: Place, b: Place) -> bool
-    ensures { result ≡ same_place a b }
-{
-    match (a, b) {
-        (
-            Place::Slot { way, bucket, cell },
-            Place::Slot {
-                way: other_way,
-                bucket: other_bucket,
-                cell: other_cell,
-            },
-        ) => way == other_way && bucket == other_bucket && cell == other_cell,
-        (Place::Row { row }, Place::Row { row: other }) => row == other,
-        _ => false,
     }
 }
 

@@ -1,8 +1,9 @@
 ghost use Rattle.std.specs.Prelude.{◌≡◌, ◌<◌, List, [], ◌∷◌, ◌++◌, length, cond, slice_index_or, None, IfOk, MatchOption};
+ghost use Rattle.sr_base.specs.Place.{same_place};
 ghost use Rattle.sr_base.specs.WordName.{HasPlace, entries_of, entry_number};
 ghost use Rattle.sr_base.specs.declared.place.Place.{Place as APlace};
 ghost use Rattle.sr_shadow.specs.Book.{holder_of, HeldOnce};
-ghost use Rattle.sr_shadow.specs.Entry.{same_place, settled, left_other};
+ghost use Rattle.sr_shadow.specs.Entry.{is_at, settled, left_other};
 ghost use Rattle.sr_shadow.specs.Holders.{HeldBy, name_of};
 ghost use Rattle.sr_shadow.specs.declared.entry.Entry.{Entry as AnEntry};
 
@@ -51,10 +52,7 @@ impl Holders {
         ensures left { (front back : List AnEntry) → HeldOnce (front ++ entry.now ∷ back) → HeldBy layout.now.shape self.old.table.items (front ++ entry.now ∷ back) → HeldBy layout.now.shape self.new.table.items (front ++ left_other entry.now ∷ back) }
         ensures size { length self.new.table.items ≡ length self.old.table.items }
     {
-        match entry.also {
-            Some(place) => self.put(layout, place, None),
-            None => {}
-        }
+        self.vacate(layout, entry.also);
     }
 
     // The entry goes, and holds no place any more.
@@ -63,8 +61,26 @@ impl Holders {
         ensures { (front back : List AnEntry) → HeldOnce (front ++ entry.now ∷ back) → HeldBy layout.now.shape self.old.table.items (front ++ entry.now ∷ back) → HeldBy layout.now.shape self.new.table.items (front ++ back) }
     {
         self.leave(layout, entry);
-        match entry.place {
-            Some(own) => self.put(layout, own, None),
+        self.depart(layout, entry);
+    }
+
+    // The entry, which has left its other place, goes from its Live place.
+    fn depart(&mut self, layout: &Layout, entry: &Entry)
+        requires { length self.old.table.items ≡ entries_of layout.now.shape }
+        ensures { (front back : List AnEntry) → HeldOnce (front ++ entry.now ∷ back) → HeldBy layout.now.shape self.old.table.items (front ++ left_other entry.now ∷ back) → HeldBy layout.now.shape self.new.table.items (front ++ back) }
+    {
+        self.vacate(layout, entry.place);
+    }
+
+    // Nobody holds the place any more, if it is one.
+    #[tactic(auto, using(crate::proofs::Places::held_alike))]
+    fn vacate(&mut self, layout: &Layout, place: Option<Place>)
+        requires { length self.old.table.items ≡ entries_of layout.now.shape }
+        ensures held { (old new : List AnEntry) → ((other : APlace) → holder_of other new ≡ cond (is_at other place) None (holder_of other old)) → HeldBy layout.now.shape self.old.table.items old → HeldBy layout.now.shape self.new.table.items new }
+        ensures size { length self.new.table.items ≡ length self.old.table.items }
+    {
+        match place {
+            Some(place) => self.put(layout, place, None),
             None => {}
         }
     }

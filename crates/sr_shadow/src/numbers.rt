@@ -25,13 +25,13 @@ impl Numbers {
         }
     }
 
-    // Makes room for one more.
-    pub(crate) fn reserve(&mut self) -> Result<(), AllocError>
+    // Makes room for so many more.
+    pub(crate) fn reserve(&mut self, additional: usize) -> Result<(), AllocError>
         ensures same { self.new.map.entries ≡ self.old.map.entries }
         ensures more { spare self.old.map ≤ spare self.new.map }
-        ensures room { OnOk result (0 < spare self.new.map) }
+        ensures room { OnOk result (additional ≤ spare self.new.map) }
     {
-        self.map.reserve(1)
+        self.map.reserve(additional)
     }
 
     // The number of the key's entry.
@@ -44,7 +44,8 @@ impl Numbers {
     // One entry more.
     pub(crate) fn join(&mut self, key: Key, number: u64)
         requires { 0 < spare self.old.map }
-        ensures { (es : List AnEntry) (e : AnEntry) → e.key ≡ key → e.taken ≡ number → is_registered key es ≡ false → Numbered (get nat_eq self.old.map) es → Numbered (get nat_eq self.new.map) (es ++ e ∷ []) }
+        ensures more { (es : List AnEntry) (e : AnEntry) → e.key ≡ key → e.taken ≡ number → is_registered key es ≡ false → Numbered (get nat_eq self.old.map) es → Numbered (get nat_eq self.new.map) (es ++ e ∷ []) }
+        ensures room { spare self.old.map ≤ spare self.new.map + 1 }
     {
         key_ranges(key);
         match self.map.insert(key.pack(), number) {

@@ -29,13 +29,13 @@ impl Rivals {
         }
     }
 
-    // Makes room for one more.
-    pub(crate) fn reserve(&mut self) -> Result<(), AllocError>
+    // Makes room for so many more.
+    pub(crate) fn reserve(&mut self, additional: usize) -> Result<(), AllocError>
         ensures same { self.new.map.entries ≡ self.old.map.entries }
         ensures more { spare self.old.map ≤ spare self.new.map }
-        ensures room { OnOk result (0 < spare self.new.map) }
+        ensures room { OnOk result (additional ≤ spare self.new.map) }
     {
-        self.map.reserve(1)
+        self.map.reserve(additional)
     }
 
     // How many registered keys outside the full-key table clash with the key, itself counted.
@@ -59,7 +59,8 @@ impl Rivals {
         requires way { (1 ≤ way) × (way ≤ 2) }
         requires room { 0 < spare self.old.map }
         requires few { FewTallied layout.now.shape way (get nat_eq self.old.map) }
-        ensures { (es : List AnEntry) → Tallied layout.now.shape way (get nat_eq self.old.map) es → Tallied layout.now.shape way (get nat_eq self.new.map) (es ++ entry.now ∷ []) }
+        ensures more { (es : List AnEntry) → Tallied layout.now.shape way (get nat_eq self.old.map) es → Tallied layout.now.shape way (get nat_eq self.new.map) (es ++ entry.now ∷ []) }
+        ensures room { spare self.old.map ≤ spare self.new.map + 1 }
     {
         let class = class(layout, way, entry.key);
         let tally = self.tally(class);

@@ -1,4 +1,4 @@
-ghost use Rattle.std.specs.Prelude.{◌≡◌, ◌+◌, ◌^◌, ◌<◌, ◌≤◌, ◌&&◌, ◌∷◌, ◌++◌, ℕ, List, [], Option, Some, None, true, false, is_some, nat_le, nat_lt, find, filter, length, drop, slice_get, option_copied, IfOk, OnOk};
+ghost use Rattle.std.specs.Prelude.{◌≡◌, ◌+◌, ◌^◌, ◌<◌, ◌≤◌, ◌&&◌, ◌∷◌, ◌++◌, ℕ, List, [], Option, Some, None, true, false, is_some, nat_le, nat_lt, find, filter, length, drop, slice_get, option_copied, min, IfOk, OnOk};
 ghost use Rattle.std.specs.List.Sorted.{IsPartitionPoint};
 ghost use Rattle.sr_shadow.specs.Entry.{is_pending, is_placed};
 ghost use Rattle.sr_shadow.specs.Roll.{entries_in, entry_at, HasEntry, HasNumber, Replaces, kept, Rising, StandsFor};
@@ -60,25 +60,28 @@ impl Roll {
         self.standing.count()
     }
 
-    // Makes room for one more entry. Where more than half of the slots are empty they are given up.
-    pub(crate) fn reserve(&mut self, alloc: Global) -> Result<(), AllocError>
+    // Makes room for so many more entries. Where more than half of the slots are empty they are given up.
+    pub(crate) fn reserve(&mut self, alloc: Global, additional: usize) -> Result<(), AllocError>
         ensures entries { self.new.entries ≡ self.old.entries }
         ensures taken { self.new.taken ≡ self.old.taken }
-        ensures room { OnOk result (0 < self.new.room) }
+        ensures kept { min additional self.old.room ≤ self.new.room }
+        ensures room { OnOk result (additional ≤ self.new.room) }
     {
         if self.slots.len() / 2 > self.standing.count() {
-            self.compact(alloc)?;
+            self.compact(alloc, additional)?;
         }
-        self.slots.reserve(1)?;
-        self.standing.reserve(alloc)
+        self.slots.reserve(additional)?;
+        self.standing.reserve(alloc, additional)
     }
 
-    // Gives up the empty slots.
-    fn compact(&mut self, alloc: Global) -> Result<(), AllocError>
+    // Gives up the empty slots. Of the room for entries so much stays as is asked for.
+    fn compact(&mut self, alloc: Global, additional: usize) -> Result<(), AllocError>
         ensures entries { self.new.entries ≡ self.old.entries }
         ensures taken { self.new.taken ≡ self.old.taken }
+        ensures kept { min additional self.old.room ≤ self.new.room }
     {
-        let standing = standing_of(alloc, &self.slots)?;
+        let mut standing = standing_of(alloc, &self.slots)?;
+        standing.reserve(alloc, additional)?;
         self.slots.retain(
             |_number: &u64, slot: &mut Option<Entry>| -> bool
                 ensures { (result ≡ is_some slot.old) × (slot.new ≡ slot.old) }
@@ -95,6 +98,7 @@ impl Roll {
         requires fits { self.old.taken + 1 < 2 ^ 64 }
         ensures entries { self.new.entries ≡ self.old.entries ++ entry ∷ [] }
         ensures taken { self.new.taken ≡ self.old.taken + 1 }
+        ensures room { self.old.room ≤ self.new.room + 1 }
     {
         let slot = Some(entry);
         self.standing.push(&slot);
@@ -200,7 +204,7 @@ fn keep(alloc: Global, slots: &Slots, at: usize, standing: &mut Standing) -> Res
 {
     match entry_at(slots, at) {
         Some(entry) => {
-            standing.reserve(alloc)?;
+            standing.reserve(alloc, 1)?;
             standing.push(&Some(*entry));
             Ok(())
         }

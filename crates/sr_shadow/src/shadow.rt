@@ -1,6 +1,6 @@
 ghost use Rattle.std.specs.Prelude.{◌≡◌, ◌≢◌, ◌+◌, ◌^◌, ◌<◌, ◌≤◌, ◌∷◌, ◌++◌, List, length, slice_get, find, count_by, true, false, is_some, option_copied, option_to_list, Option, Some, None, IsOk, IfOk, OnOk, OnErr};
-ghost use Rattle.sr_shadow.specs.Book.{entry_for, is_registered, pending_from, placed_from, holder_of, count_of, is_clashing, standing_of, opened, reserved_for, with_changed, with_new, with_closed, with_settled, with_left, with_swept, with_retired, CanSettle, CanLeave, CanSweep, DistinctKeys, IsBook};
-ghost use Rattle.sr_shadow.specs.Entry.{holds, is_at, quiet_after, same_place};
+ghost use Rattle.sr_shadow.specs.Book.{entry_for, is_registered, is_ready, pending_from, placed_from, holder_of, count_of, is_clashing, standing_of, opened, reserved_for, with_changed, with_new, with_closed, with_settled, with_left, with_swept, with_retired, CanSettle, CanLeave, CanSweep, DistinctKeys, IsBook};
+ghost use Rattle.sr_shadow.specs.Entry.{fresh, holds, is_at, quiet_after};
 ghost use Rattle.sr_shadow.specs.Rivals.{is_outsider, own_outside};
 ghost use Rattle.sr_shadow.specs.Shadow.{CanNote};
 ghost use Rattle.sr_shadow.specs.Taking.{Takes};
@@ -153,7 +153,8 @@ impl Shadow {
         }
     }
 
-    /// Makes room for an entry of this key, so that the next `take` of it needs no memory. One key at a time has such room.
+    /// Makes room for an entry of this key, so that the next `take` of it needs no memory, whatever other keys are taken before. One key at a
+    /// time has such room: a `reserve` for another key hands it on.
     pub fn reserve(&mut self, alloc: Global, key: Key) -> Result<(), AllocError>
         ensures ok { OnOk result (self.new ≡ reserved_for key self.old) }
         ensures err { OnErr result (self.new ≡ self.old) }
@@ -163,10 +164,10 @@ impl Shadow {
             self.ready = Some(key);
             return Ok(());
         }
-        self.roll.reserve(alloc)?;
-        self.numbers.reserve()?;
-        self.first.reserve()?;
-        self.second.reserve()?;
+        self.roll.reserve(alloc, 1)?;
+        self.numbers.reserve(1)?;
+        self.first.reserve(1)?;
+        self.second.reserve(1)?;
         self.ready = Some(key);
         Ok(())
     }
@@ -179,8 +180,11 @@ impl Shadow {
         if self.has(key) {
             return Ok(Took::Same);
         }
-        self.reserve(alloc, key)?;
-        self.enter(key, version);
+        if self.is_ready(key) {
+            self.enter(key, version);
+        } else {
+            self.enter_beside(alloc, key, version)?;
+        }
         Ok(Took::New)
     }
 
@@ -295,30 +299,53 @@ impl Shadow {
         None
     }
 
+    // Whether room was made for the key.
+    fn is_ready(&self, key: Key) -> bool
+        ensures { result ≡ is_ready key self.now.ready }
+    {
+        match self.ready {
+            Some(ready) => key.same(ready),
+            None => false,
+        }
+    }
+
     // A new last entry, for which room was made.
     fn enter(&mut self, key: Key, version: Version)
-        requires ready { self.old.ready ≡ Some key }
+        requires ready { is_ready key self.old.ready ≡ true }
         requires new { is_registered key self.old.entries ≡ false }
         requires most { self.old.taken < 2 ^ 56 }
         ensures { self.new ≡ with_new key version self.old }
     {
         key_ranges(key);
-        let number = self.roll.taken();
-        let entry = Entry {
-            key,
-            version,
-            place: None,
-            also: None,
-            taken: number,
-            closed: false,
-            quiet: None,
-        };
-        self.numbers.join(key, number);
+        let entry = new_entry(key, version, self.roll.taken());
+        self.numbers.join(key, entry.taken);
         self.counts.join(&entry);
         self.first.join(&self.layout, 1, &entry);
         self.second.join(&self.layout, 2, &entry);
         self.roll.push(entry);
         self.ready = None;
+    }
+
+    // A new last entry, for which no room was made. It finds room for two, so that what was made for another key stays.
+    fn enter_beside(&mut self, alloc: Global, key: Key, version: Version) -> Result<(), AllocError>
+        requires other { is_ready key self.old.ready ≡ false }
+        requires new { is_registered key self.old.entries ≡ false }
+        requires most { self.old.taken < 2 ^ 56 }
+        ensures ok { OnOk result (self.new ≡ with_new key version self.old) }
+        ensures err { OnErr result (self.new ≡ self.old) }
+    {
+        key_ranges(key);
+        self.roll.reserve(alloc, 2)?;
+        self.numbers.reserve(2)?;
+        self.first.reserve(2)?;
+        self.second.reserve(2)?;
+        let entry = new_entry(key, version, self.roll.taken());
+        self.numbers.join(key, entry.taken);
+        self.counts.join(&entry);
+        self.first.join(&self.layout, 1, &entry);
+        self.second.join(&self.layout, 2, &entry);
+        self.roll.push(entry);
+        Ok(())
     }
 
     // An entry in the place of the key's, from which the indexes can't tell it.
@@ -381,6 +408,21 @@ impl Shadow {
         self.second.drop_out(&self.layout, 2, entry);
         self.holders.free(&self.layout, entry);
         self.roll.put(entry.taken, None);
+    }
+}
+
+// The entry of a key that is registered now.
+fn new_entry(key: Key, version: Version, taken: u64) -> Entry
+    ensures { result ≡ fresh key version taken }
+{
+    Entry {
+        key,
+        version,
+        place: None,
+        also: None,
+        taken,
+        closed: false,
+        quiet: None,
     }
 }
 

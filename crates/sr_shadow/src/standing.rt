@@ -27,22 +27,24 @@ impl Standing {
         }
     }
 
-    // Makes room for one more slot.
-    pub(crate) fn reserve(&mut self, alloc: Global) -> Result<(), AllocError>
+    // Makes room for so many more slots.
+    pub(crate) fn reserve(&mut self, alloc: Global, additional: usize) -> Result<(), AllocError>
         ensures live { self.new.live.marks ≡ self.old.live.marks }
         ensures pending { self.new.pending.marks ≡ self.old.pending.marks }
         ensures placed { self.new.placed.marks ≡ self.old.placed.marks }
-        ensures room { OnOk result (0 < standing_room self.new) }
+        ensures more { standing_room self.old ≤ standing_room self.new }
+        ensures room { OnOk result (additional ≤ standing_room self.new) }
     {
-        self.live.reserve(alloc)?;
-        self.pending.reserve(alloc)?;
-        self.placed.reserve(alloc)
+        self.live.reserve(alloc, additional)?;
+        self.pending.reserve(alloc, additional)?;
+        self.placed.reserve(alloc, additional)
     }
 
     // One slot more.
     pub(crate) fn push(&mut self, slot: &Option<Entry>)
         requires { 0 < standing_room self.old }
-        ensures { (slots : List (ℕ × Option AnEntry)) (number : ℕ) → StandsFor self.old slots → StandsFor self.new (slots ++ (number, slot.now) ∷ []) }
+        ensures stands { (slots : List (ℕ × Option AnEntry)) (number : ℕ) → StandsFor self.old slots → StandsFor self.new (slots ++ (number, slot.now) ∷ []) }
+        ensures room { standing_room self.old ≤ standing_room self.new + 1 }
     {
         self.live.push(slot.is_some());
         self.pending.push(is_pending(slot));

@@ -7,6 +7,7 @@ use Rattle.sr_base.specs.declared.kind.Kind.{Kind}
 use Rattle.sr_base.specs.declared.kind.Kind.TheVariants.{Opener, Carry, Ending}
 use Rattle.sr_base.specs.declared.place.Place.{Place}
 use Rattle.sr_base.specs.declared.place.Place.TheVariants.{Slot, Row}
+use Rattle.sr_decimal.specs.Front.{is_digit}
 use Rattle.sr_frame.specs.declared.skip.Skip.{Skip}
 use Rattle.sr_frame.specs.declared.skip.Skip.TheVariants.{NotIpv4, NotTcp, Fragment, Short, NotVip}
 use Rattle.sr_law.specs.declared.verdict.HeldBy.TheVariants.{Clash, Hold, Transit}
@@ -15,7 +16,7 @@ use Rattle.sr_law.specs.declared.verdict.Verdict.TheVariants.{To, Held, Down, Fu
 use Rattle.sr_text.specs.Fields.{address_text, key_text, kind_text, place_text, choice_text, verdict_text}
 use Rattle.sr_text.specs.LineText.{skip_word}
 use Rattle.sr_text.specs.Ranges.{IsPlace, IsChoice, IsVerdict}
-use Rattle.sr_text.specs.Fronts.{is_digit, after_word, address_front, key_front, kind_front, slot_front, row_front, place_front, choice_front, to_front, down_front, plain_front, verdict_front, why_front, skip_front, said, choose}
+use Rattle.sr_text.specs.Fronts.{after_word, address_front, key_front, kind_front, slot_front, row_front, place_front, choice_front, to_front, down_front, plain_front, verdict_front, why_front, skip_front, said, choose}
 use Rattle.sr_text.proofs.Decimals.{field_there, field_then, bind_some}
 use Rattle.sr_text.proofs.Words.{after_word_takes}
 

@@ -1,10 +1,11 @@
 -- Reading as functions of the bytes: the value at the front, and the bytes after it and its ending; none where no such value is there.
-use Rattle.std.specs.Prelude.{ℕ, ◌+◌, ◌*◌, ◌-◌, Bool, ◌&&◌, ◌==◌, nat_le, if◌then◌else◌, List, [], ◌∷◌, codes, Option, Some, None, option_and_then}
+use Rattle.std.specs.Prelude.{ℕ, ◌+◌, ◌*◌, ◌==◌, if◌then◌else◌, List, [], ◌∷◌, codes, Option, Some, None, option_and_then}
 use Rattle.sr_base.specs.Key.{KeyView}
 use Rattle.sr_base.specs.declared.kind.Kind.{Kind}
 use Rattle.sr_base.specs.declared.kind.Kind.TheVariants.{Opener, Carry, Ending}
 use Rattle.sr_base.specs.declared.place.Place.{Place}
 use Rattle.sr_base.specs.declared.place.Place.TheVariants.{Slot, Row}
+use Rattle.sr_decimal.specs.Front.{number_front}
 use Rattle.sr_frame.specs.declared.skip.Skip.{Skip}
 use Rattle.sr_frame.specs.declared.skip.Skip.TheVariants.{NotIpv4, NotTcp, Fragment, Short, NotVip}
 use Rattle.sr_law.specs.declared.line.Line.{Line}
@@ -18,26 +19,6 @@ use Rattle.sr_text.specs.declared.name.Name.TheVariants as name
 infixl 10 ◌>>=◌
 abbrev pub ◌>>=◌ : {A B : Type 0} → Option A → (A → Option B) → Option B
 o >>= f = option_and_then f o
-
--- the byte is one of 0 to 9
-abbrev pub is_digit : ℕ → Bool
-is_digit byte = nat_le 48 byte && nat_le byte 57
-
--- the number that goes on from n with the digits at the front, and the bytes after them; none where it passes `most`
-abbrev pub digits_on : ℕ → ℕ → List ℕ → Option (ℕ × List ℕ)
-digits_on most n [] = Some (n, [])
-digits_on most n (byte ∷ bytes) =
-    if is_digit byte
-    then (if nat_le (10 * n + (byte - 48)) most then digits_on most (10 * n + (byte - 48)) bytes else None)
-    else Some (n, byte ∷ bytes)
-
--- the number at the front: a zero alone, or digits that don't begin with a zero
-unfoldable pub number_front : ℕ → List ℕ → Option (ℕ × List ℕ)
-number_front most [] = None
-number_front most (byte ∷ bytes) =
-    if byte == 48 then Some (0, bytes)
-    else if is_digit byte then (if nat_le (byte - 48) most then digits_on most (byte - 48) bytes else None)
-    else None
 
 -- the bytes after these at the front
 abbrev pub after_word : List ℕ → List ℕ → Option (List ℕ)

@@ -1,9 +1,10 @@
 //! Numbers at the front of bytes: decimal, without leading zeros, each with the one byte that ends it.
-ghost use Rattle.std.specs.Prelude.{◌≡◌, ◌≤◌, ◌<◌, option_map, IfSome};
-ghost use Rattle.sr_text.specs.Fronts.{digits_on, field_front, number_front};
+ghost use Rattle.std.specs.Prelude.{◌≡◌, ◌≤◌, option_map, IfSome};
+ghost use Rattle.sr_text.specs.Fronts.{field_front};
 
 use crate::word::after_word;
 use sr_base::Version;
+use sr_decimal::number_front;
 
 /// A number that 8 bits hold, and what follows the byte behind it.
 pub(crate) fn small(ending: u8, bytes: &[u8]) -> Option<(u8, &[u8])>
@@ -54,41 +55,4 @@ pub(crate) fn field(most: u64, ending: u8, bytes: &[u8]) -> Option<(u64, &[u8])>
     let (number, rest) = number_front(most, bytes)?;
     let rest = after_word(&[ending], rest)?;
     Some((number, rest))
-}
-
-// The number at the front, and what follows it.
-#[tactic(auto, unfolding(crate::specs::Fronts::number_front))]
-fn number_front(most: u64, bytes: &[u8]) -> Option<(u64, &[u8])>
-    ensures value { option_map (λ x. (x.0, x.1.now)) result ≡ number_front most bytes.now }
-    ensures bound { IfSome result (λ x. x.0 ≤ most) }
-{
-    match bytes {
-        [b'0', rest @ ..] => Some((0, rest)),
-        [first @ b'1'..=b'9', rest @ ..] if (*first - b'0') as u64 <= most => digits_on(
-            most,
-            (*first - b'0') as u64,
-            rest,
-        ),
-        _ => None,
-    }
-}
-
-// The number that goes on from `start` with the digits at the front, at most `most`, and what follows them.
-fn digits_on(most: u64, start: u64, bytes: &[u8]) -> Option<(u64, &[u8])>
-    requires { start ≤ most }
-    ensures value { option_map (λ x. (x.0, x.1.now)) result ≡ digits_on most start bytes.now }
-    ensures bound { IfSome result (λ x. x.0 ≤ most) }
-{
-    let mut number = start;
-    for (i, byte) in bytes.iter().enumerate() {
-        if !byte.is_ascii_digit() {
-            return Some((number, &bytes[i..]));
-        }
-        let next = 10 * number as u128 + (*byte - b'0') as u128;
-        if next > most as u128 {
-            return None;
-        }
-        number = next as u64;
-    }
-    Some((number, &[]))
 }

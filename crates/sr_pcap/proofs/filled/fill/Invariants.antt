@@ -1,5 +1,5 @@
 use Rattle.std.proofs.Common.{◌≡◌, ℕ, ◌≤◌, ◌-◌, List, Some}
-use Rattle.sr_pcap.specs.Filled.{Holds}
+use Rattle.sr_pcap.proofs.Filling.{Holds}
 use Rattle.sr_pcap.proofs.filled.fill.Given as goal
 
 abbrev pub invariant-loop-at : goal.invariant-loop-at

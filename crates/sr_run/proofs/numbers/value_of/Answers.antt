@@ -1,6 +1,7 @@
 use Rattle.std.proofs.Common.{◌+◌, ◌-◌, ◌*◌, get_or, drop, ap, sym, ◌∙◌, arith}
 use Rattle.std.proofs.lemmas.List.{at_drop_more}
-use Rattle.sr_run.specs.Numbers.{fitting, value_from}
+use Rattle.sr_decimal.specs.Front.{value_from}
+use Rattle.sr_run.specs.Numbers.{fitting}
 use Rattle.sr_run.proofs.Digits.{too_large}
 use Rattle.sr_run.proofs.numbers.value_of.Goals as goal
 

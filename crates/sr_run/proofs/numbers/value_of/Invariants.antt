@@ -1,5 +1,5 @@
 use Rattle.std.proofs.Common.{◌≡◌, drop}
-use Rattle.sr_run.specs.Numbers.{value_from}
+use Rattle.sr_decimal.specs.Front.{value_from}
 use Rattle.sr_run.proofs.numbers.value_of.Given as goal
 
 -- the number so far goes on to the whole one

@@ -2,8 +2,8 @@ use Rattle.std.proofs.Common.{drop, ◌∙◌, arith}
 use Rattle.sr_pcap.proofs.Reading.{answers_long, answers_short, answers_whole}
 use Rattle.sr_pcap.proofs.reader.Reader.read_body.Goals as goal
 
-pub returns-then-length-gt-MOST-clause-record : goal.returns-then-length-gt-MOST-clause-record
-returns-then-length-gt-MOST-clause-record g c = rw (← c.self.view_is) (λ xs h enough same.
+pub returns-then-length-gt-MOST_CAPTURED-clause-record : goal.returns-then-length-gt-MOST_CAPTURED-clause-record
+returns-then-length-gt-MOST_CAPTURED-clause-record g c = rw (← c.self.view_is) (λ xs h enough same.
     answers_long c.self.inside.format c.self.inside.offset c.end.result c.captured_length-length.result xs c.args.header.now _ _ c.end.ensures.same c.captured_length-length.ensures enough same (omega arith) h)
 
 pub returns-in-Full-clause-record : goal.returns-in-Full-clause-record

@@ -9,7 +9,11 @@ invariant_of-self c =
     let kept : c.retain.new.self.entries ≡ filter (λ s. is_some s.1) c.self.inside.slots.entries = filter-RetainsPairs _ (λ s. is_some s.1) _ (λ k v b w g call. search rules) _ _ c.retain.ensures.filtered in
     record {
       rising = subst (λ ss. Rising 0 ss c.self.inside.taken) (sym kept) (rising_filtered 0 c.self.inside.taken c.self.inside.slots.entries c.self.invariant.rising);
-      stands = subst (λ ss. StandsFor c.in_ok-standing.standing ss) (sym kept) c.in_ok-standing.ensures;
+      stands = subst (λ ss. StandsFor c.reserve.new.self ss) (sym kept) (record {
+        live = c.reserve.ensures.live ∙ c.in_ok-standing.ensures.live;
+        pending = c.reserve.ensures.pending ∙ c.in_ok-standing.ensures.pending;
+        placed = c.reserve.ensures.placed ∙ c.in_ok-standing.ensures.placed;
+      });
     }
 
 pub returns-clause-entries : goal.returns-clause-entries

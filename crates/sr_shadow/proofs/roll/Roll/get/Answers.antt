@@ -1,4 +1,4 @@
-use Rattle.std.proofs.Common.{◌≡◌, None, ap, sym, ◌∙◌, is_some, true≢false, unwrap_or}
+use Rattle.std.proofs.Common.{None, ap, sym, ◌∙◌, is_some, true≢false, unwrap_or}
 use Rattle.sr_shadow.proofs.Slots.{found_at}
 use Rattle.sr_shadow.proofs.roll.Roll.get.Goals as goal
 

@@ -1,4 +1,4 @@
-use Rattle.std.proofs.Common.{◌≡◌, refl, sym, ap, subst, ◌∙◌, ◌++◌, ◌∷◌, arith}
+use Rattle.std.proofs.Common.{refl, sym, ap, ◌∙◌}
 use Rattle.sr_shadow.specs.Book.{entry_for, without_key, with_retired}
 use Rattle.sr_shadow.proofs.Keeping.{book_is, room_more, shadow_conv, shadow_less}
 use Rattle.sr_shadow.proofs.Splits.{split, without_split}

@@ -1,4 +1,4 @@
-use Rattle.std.proofs.Common.{◌≡◌, refl, sym, ap, subst, ◌∙◌, ◌++◌, ◌∷◌, arith}
+use Rattle.std.proofs.Common.{refl, sym, ap, ◌∙◌, arith}
 use Rattle.sr_shadow.specs.Book.{entry_for, holder_of, with_changed, with_settled}
 use Rattle.sr_shadow.specs.Entry.{settled}
 use Rattle.sr_shadow.proofs.Keeping.{book_is, few_entries, room_more, shadow_conv, shadow_settled}

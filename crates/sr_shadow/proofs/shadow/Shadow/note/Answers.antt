@@ -1,4 +1,4 @@
-use Rattle.std.proofs.Common.{◌≡◌, refl, sym, ap, subst, ◌∙◌, ◌++◌, ◌∷◌, arith}
+use Rattle.std.proofs.Common.{◌≡◌, refl, sym, ap, ◌∙◌, ◌++◌, ◌∷◌, arith}
 use Rattle.sr_shadow.specs.Book.{Book, entry_for, with_changed}
 use Rattle.sr_shadow.proofs.Keeping.{book_is, room_more, shadow_conv, shadow_same}
 use Rattle.sr_shadow.proofs.Splits.{split, changed_split, some_same}

@@ -1,4 +1,4 @@
-use Rattle.std.proofs.Common.{ap, sym, arith, ◌∙◌}
+use Rattle.std.proofs.Common.{arith}
 use Rattle.sr_shadow.proofs.Slots.{stands_set}
 use Rattle.sr_shadow.proofs.standing.Standing.set.Goals as goal
 

@@ -1,6 +1,6 @@
 use Rattle.std.proofs.Common.{◌≡◌, ◌≤◌, drop}
-use Rattle.sr_script.specs.Address.{digits_on}
-use Rattle.sr_script.proofs.address_text.digits_on.Given as goal
+use Rattle.sr_decimal.specs.Front.{digits_on}
+use Rattle.sr_decimal.proofs.front.digits_on.Given as goal
 
 -- the digits from here go on to what all of them give
 abbrev pub invariant-loop-i : goal.invariant-loop-i
