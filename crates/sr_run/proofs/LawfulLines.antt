@@ -36,9 +36,10 @@ use Rattle.sr_law.specs.Taken.{keeps_places}
 use Rattle.sr_law.specs.TakenDown.{is_known_down}
 use Rattle.sr_law.specs.Ticks.{lines_before, out_of, start_of}
 use Rattle.sr_law.proofs.Clauses.{meets, none_broken}
-use Rattle.sr_run.specs.One.{one_lines, one_pools, one_setup, opening_line, packet_line, packet_lines}
-use Rattle.sr_run.specs.Run.{IsLawfulIn, PrintsLawful, KeepServers, lines_of, lines_in}
-use Rattle.sr_run.specs.Capture.{packets_from, records_behind}
+use Rattle.sr_frame.specs.declared.skip.Skip.{Skip}
+use Rattle.sr_run.specs.One.{one_lines, one_pools, one_setup, one_text, opening_line, packet_line, packet_lines, IsLawfulIn, PrintsLawful, KeepServers, lines_of, lines_in}
+use Rattle.sr_run.specs.Capture.{packets_from, skips_from, records_behind}
+use Rattle.sr_text.specs.LineText.{log_text}
 use Rattle.sr_pcap.specs.declared.begin_refusal.BeginRefusal.{BeginRefusal}
 use Rattle.sr_pcap.specs.declared.format.Format.{Format}
 use Rattle.sr_pcap.specs.Format.{header_of}
@@ -307,10 +308,17 @@ one_is_lawful servers packets some first =
       final_met servers last packets (reverse (one_lines servers packets)) (rw (e, sym (append-nil (reverse packets))) held),
     )
 
+-- what is printed is the text of the lines
+text_of_lines : (servers : ℕ) (skips : List (ℕ × Skip)) (packets : List Packet) → one_text servers skips packets ≡ log_text skips (one_lines servers packets)
+unfolding one_text
+text_of_lines servers skips packets = refl
+
 lawful_in : (header : Result Format BeginRefusal) (vip : ℕ × ℕ) (servers : ℕ) (bytes : List ℕ) → 1 ≤ servers → IsLawfulIn header vip servers bytes
 lawful_in (Ok format) vip servers bytes some =
-    let frames = (records_behind format bytes).frames in
-    one_is_lawful servers (packets_from format.link vip 1 frames) some (packets_first format.link vip 1 frames)
+    let frames = (records_behind format bytes).frames in (
+      text_of_lines servers (skips_from format.link vip 1 frames) (packets_from format.link vip 1 frames),
+      one_is_lawful servers (packets_from format.link vip 1 frames) some (packets_first format.link vip 1 frames),
+    )
 lawful_in (Err why) vip servers bytes some = tt
 
 -- whatever is read
