@@ -1,6 +1,6 @@
 ghost use Rattle.std.specs.Prelude.{◌≡◌, ◌↔◌, IfOk, IsTrue, length};
 ghost use Rattle.std.specs.List.{range_with_len};
-ghost use Rattle.sr_law.specs.Final.{packet_by, packets_of};
+ghost use Rattle.sr_law.specs.Final.{packets_of};
 ghost use Rattle.sr_run.specs.Numbering.{IsNumbering, numbers_of};
 
 use sr_base::Packet;
@@ -14,26 +14,11 @@ pub(crate) fn packets_of(alloc: Global, lines: &[Line]) -> Result<Vec<Packet>, A
 {
     let mut packets = Vec::new(alloc);
     for line in lines {
-        if let Some(packet) = packet_of(line) {
+        if let Some(packet) = line.packet() {
             packets.push(packet)?;
         }
     }
     Ok(packets)
-}
-
-// The packet that a line tells of.
-fn packet_of(line: &Line) -> Option<Packet>
-    ensures { result ≡ packet_by line.now }
-{
-    match *line {
-        Line::Packet {
-            number,
-            key,
-            kind,
-            ..
-        } => Some(Packet { number, key, kind }),
-        _ => None,
-    }
 }
 
 /// Whether the numbers of the skipped records and of the packets are together 1 to as many as they are, each once.
