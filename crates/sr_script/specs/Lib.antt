@@ -1,4 +1,5 @@
 pub mod Address
+pub mod AddressList
 pub mod Fault
 pub mod Fitting
 pub mod Judge

@@ -6,10 +6,11 @@
 //! - `Script` is what a text says, `ScriptRefusal` why and where a text is no script, `Why` the reasons with their words.
 //! - `address` reads the text of an address and a port (`specs/Address.antt`).
 //!
-//! Inside, each part of a script has a file: `shape_table`, `servers`, `pool_array`, `vip_list`, `change_list`. They stand on `tree` (values
-//! of one type), `rule` (whole numbers in a range), `count` (how many elements), `known` (known keys) and `fault` (paths).
+//! Inside, each part of a script has a file: `shape_table`, `servers`, `pool_array`, `vip_list`, `change_list`. They stand on `address_list` (addresses
+//! with a set beside them), `tree` (values of one type), `rule` (whole numbers in a range), `count` (how many elements), `known` (known keys) and `fault` (paths).
 #![tactic(auto)]
 
+mod address_list;
 mod address_text;
 mod change_list;
 mod count;
