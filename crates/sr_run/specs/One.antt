@@ -10,7 +10,7 @@ use Rattle.sr_law.specs.declared.line.Line.TheVariants as lines
 use Rattle.sr_law.specs.declared.verdict.Verdict.TheVariants.{To}
 use Rattle.sr_law.specs.Pools.{VipPools}
 use Rattle.sr_law.specs.Setup.{SetupView}
-use Rattle.sr_script.specs.Walk.{default_shape}
+use Rattle.sr_script.specs.Spelled.{default_shape}
 use Rattle.sr_text.specs.LineText.{log_text}
 
 -- the pools: the one virtual address has one pool, of all the servers in their order

@@ -3,7 +3,7 @@ use Rattle.std.specs.Prelude.{◌≡◌, List}
 use Rattle.std.specs.Ordering.{nat_cmp, ordering_then}
 use Rattle.std.specs.List.{list_any}
 use Rattle.std.specs.BTreeSet.{BTreeSet, contains}
-use Rattle.sr_script.specs.Walk.{Address, same_address}
+use Rattle.sr_script.specs.Spelled.{Address, same_address}
 
 -- The set has an address exactly where the list has it. The set's order is by number, then by port.
 abbrev pub HasSame : List Address → BTreeSet Address → Type 0

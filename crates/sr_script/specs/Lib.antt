@@ -6,6 +6,7 @@ pub mod Judge
 pub mod Path
 pub mod Schema
 pub mod Script
+pub mod Spelled
 pub mod VipList
 pub mod Walk
 pub mod Why

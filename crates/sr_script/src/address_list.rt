@@ -1,6 +1,6 @@
 ghost use Rattle.std.specs.Prelude.{◌≡◌, List, [], ◌∷◌, ◌++◌, length, vec_len, IfOk, OnErr};
 ghost use Rattle.std.specs.List.{list_any};
-ghost use Rattle.sr_script.specs.Walk.{same_address};
+ghost use Rattle.sr_script.specs.Spelled.{same_address};
 
 use std::alloc::{AllocError, Global};
 use std::collections::BTreeSet;
@@ -16,7 +16,7 @@ pub struct AddressList {
 impl Model for AddressList {
     ghost use Rattle.std.specs.Prelude.{List};
     ghost use Rattle.sr_script.specs.AddressList.{HasSame};
-    ghost use Rattle.sr_script.specs.Walk.{Address};
+    ghost use Rattle.sr_script.specs.Spelled.{Address};
 
     ghost Value = { List Address };
 

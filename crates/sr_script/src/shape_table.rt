@@ -1,7 +1,8 @@
 ghost use Rattle.std.specs.Prelude.{◌≡◌, ◌≤◌, map, max, option_map, IfOk};
 ghost use Rattle.sr_script.specs.Fault.{Answers, at_path};
 ghost use Rattle.sr_script.specs.Judge.{most_of};
-ghost use Rattle.sr_script.specs.Walk.{default_shape, number_or, shape_number, shape_in, shape_or, shape_of};
+ghost use Rattle.sr_script.specs.Spelled.{default_shape};
+ghost use Rattle.sr_script.specs.Walk.{number_or, shape_number, shape_in, shape_or, shape_of};
 ghost use Rattle.toml.specs.View.{view, table_view};
 
 use crate::fault::at_key;

@@ -35,6 +35,7 @@ pub record TakesOne (old new : WindowView) (ss : List (ℕ × Skip)) (ls : List 
   pub numbers : IsLog ss ls → IsLog ts ms
   pub count : line_count ts ms ≡ 1 + line_count ss ls
 
+-- A line was added to one of the two lists; or none that can come next is there, and all is as it was.
 abbrev pub Adds : Added → WindowView → WindowView → List (ℕ × Skip) → List Line → List (ℕ × Skip) → List Line → Type 0
 Adds added.Line old new ss ls ts ms = TakesOne old new ss ls ts ms
 Adds added.Nothing old new ss ls ts ms = (¬ (GoesOn ls old.unread)) × (new ≡ old) × (ts ≡ ss) × (ms ≡ ls)

@@ -1,6 +1,7 @@
 use Rattle.std.proofs.Common.{length, length-append, ap, arith}
 use Rattle.std.proofs.lemmas.Result.{err_from_is_err_and}
-use Rattle.sr_script.specs.Walk.{Address, server_in}
+use Rattle.sr_script.specs.Spelled.{Address}
+use Rattle.sr_script.specs.Walk.{server_in}
 use Rattle.sr_script.proofs.Readings.{each_more, each_fails, each_ends}
 use Rattle.sr_script.proofs.servers.servers_from.Goals as goal
 

@@ -1,6 +1,6 @@
 use Rattle.std.proofs.Common.{length, length-append, ap, arith}
 use Rattle.std.proofs.lemmas.Result.{err_from_is_err_and}
-use Rattle.sr_script.specs.Walk.{Address}
+use Rattle.sr_script.specs.Spelled.{Address}
 use Rattle.sr_script.proofs.Readings.{parts_more, parts_fails, parts_end}
 use Rattle.sr_script.proofs.vip_list.vips_from.Goals as goal
 

@@ -1,6 +1,6 @@
 use Rattle.std.proofs.Common.{List, ap, ◌∙◌}
 use Rattle.std.specs.List.{list_any}
-use Rattle.sr_script.specs.Walk.{Address, same_address}
+use Rattle.sr_script.specs.Spelled.{Address, same_address}
 use Rattle.sr_script.proofs.address_list.AddressList.contains.Goals as goal
 
 pub returns : goal.returns
