@@ -7,7 +7,7 @@ use Rattle.sr_io.specs.declared.shelf.FetchRefusal.TheVariants.{TooLong}
 use Rattle.sr_law.specs.declared.line.Line.{Line}
 use Rattle.sr_script.specs.declared.why.Why.TheVariants.{TextTooLong}
 use Rattle.sr_script.specs.Fault.{Fault}
-use Rattle.sr_script.specs.Walk.{Spelled}
+use Rattle.sr_script.specs.Spelled.{Spelled}
 use Rattle.sr_text.specs.declared.log_refusal.LogRefusal.{LogRefusal}
 use Rattle.sr_text.specs.declared.log_refusal.LogRefusal.TheVariants.{BadLine}
 use Rattle.sr_text.specs.Log.{Reads, IsFirstBad}

@@ -12,7 +12,7 @@ use Rattle.sr_law.specs.Lawful.{IsLawful, breach_of}
 use Rattle.sr_law.specs.Pools.{pools_from}
 use Rattle.sr_law.specs.Setup.{SetupView}
 use Rattle.sr_script.specs.Fault.{fault_of}
-use Rattle.sr_script.specs.Walk.{Spelled}
+use Rattle.sr_script.specs.Spelled.{Spelled}
 use Rattle.sr_text.specs.LineText.{log_text}
 use Rattle.sr_text.specs.Log.{IsLog, IsFirstBad, line_count}
 use Rattle.sr_run.specs.Numbering.{IsNumbering, numbers_of}

@@ -22,7 +22,7 @@ use Rattle.sr_run.specs.declared.status.CaptureRefusal.{CaptureRefusal}
 use Rattle.sr_run.specs.declared.status.Status.{Status}
 use Rattle.sr_run.specs.declared.status.Status.TheVariants.{Done, Usage, Script, Capture, ReadFault, WriteFault, Memory, Breach}
 use Rattle.sr_run.specs.Capture.{records_behind, ending_of, packets_from, skips_from, header_refusal}
-use Rattle.sr_script.specs.Walk.{default_shape}
+use Rattle.sr_script.specs.Spelled.{default_shape}
 use Rattle.sr_text.specs.LineText.{log_text}
 
 -- the pools: the one virtual address has one pool, of all the servers in their order

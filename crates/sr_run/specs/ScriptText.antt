@@ -4,7 +4,7 @@ use Rattle.sr_script.specs.declared.why.Why.TheVariants.{TextTooLong}
 use Rattle.sr_script.specs.Fault.{Fault, fault_of}
 use Rattle.sr_script.specs.Fitting.{IsFitting}
 use Rattle.sr_script.specs.Script.{spelled, IsScriptText, HasFault}
-use Rattle.sr_script.specs.Walk.{Spelled}
+use Rattle.sr_script.specs.Spelled.{Spelled}
 use Rattle.sr_run.specs.declared.script_text.Fetched.{Fetched}
 use Rattle.sr_run.specs.declared.script_text.Fetched.TheVariants.{Script, Refused, ReadFault, Memory}
 

@@ -2,15 +2,12 @@
 use Rattle.std.specs.Prelude.{ℕ, Bool, true, not, ◌&&◌, ◌==◌, nat_le, if◌then◌else◌, List, [], ◌∷◌, length, Option, Some, None, option_map, option_and_then}
 use Rattle.std.specs.List.{list_any, slice_split}
 use Rattle.sr_script.specs.Address.{address_of}
+use Rattle.sr_script.specs.Spelled.{same_address}
 
 -- the addresses that these texts spell, if each of them spells one
 abbrev pub addresses_of : List (List ℕ) → Option (List (ℕ × ℕ))
 addresses_of [] = Some []
 addresses_of (text ∷ texts) = option_and_then (λ a. option_map (λ others. a ∷ others) (addresses_of texts)) (address_of text)
-
--- two addresses are one
-abbrev pub same_address : ℕ × ℕ → ℕ × ℕ → Bool
-same_address a b = (a.0 == b.0) && (a.1 == b.1)
 
 -- no address stands twice
 abbrev pub all_differ : List (ℕ × ℕ) → Bool

@@ -97,7 +97,7 @@ fn print_lawful<K: Sink>(count: usize, sink: &mut K) -> Put
     ensures failed { result ≡ put.Failed → Rose (K.faults sink.old) (K.faults sink.new) }
 {
     let mut text = LineText::new();
-    text.number(count as u64);
+    text.put_u64(count as u64);
     text.word(b"lawful ");
     match sink.write(text.bytes()) {
         Put::All => sink.flush(),

@@ -1,6 +1,7 @@
 ghost use Rattle.std.specs.Prelude.{◌≡◌, ◌==◌, ◌≤◌, IfOk, IfSome, option_map};
 ghost use Rattle.std.specs.List.{list_any, slice_split};
-ghost use Rattle.sr_run.specs.Servers.{addresses_of, all_differ, counted, same_address, count_of_servers};
+ghost use Rattle.sr_run.specs.Servers.{addresses_of, all_differ, counted, count_of_servers};
+ghost use Rattle.sr_script.specs.Spelled.{same_address};
 
 use sr_script::address;
 use std::alloc::{AllocError, Global};

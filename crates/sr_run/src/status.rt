@@ -157,7 +157,7 @@ fn breach_text<K: Sink>(line: u64, clause: Clause, sink: &mut K) -> Put
     let mut text = LineText::new();
     text.word(clause_word(clause));
     text.word(b" breaks ");
-    text.number(line);
+    text.put_u64(line);
     text.word(b"silkroad: audit: line ");
     sink.write(text.bytes())
 }
@@ -215,6 +215,6 @@ fn put_offset(words: &[u8], offset: u64, text: &mut LineText)
     ensures text { text.new ≡ words.now ++ (decimal offset ++ text.old) }
     ensures length { length text.new ≤ 40 }
 {
-    text.number(offset);
+    text.put_u64(offset);
     text.word(words);
 }

@@ -13,7 +13,7 @@ use Rattle.sr_script.specs.Fitting.{IsFitting}
 use Rattle.sr_script.specs.Judge.{fits}
 use Rattle.sr_script.specs.Script.{spelled, Parses}
 use Rattle.sr_script.specs.Schema.{Spells, SpellsNumber, SpellsOr, SpellsShape, IsTable}
-use Rattle.sr_script.specs.Walk.{Spelled, default_shape}
+use Rattle.sr_script.specs.Spelled.{Spelled, default_shape}
 use Rattle.sr_script.proofs.Law.{walk_spells}
 
 met_or : (rule : Rule) (default : ℕ) (o : Option Data) (n : ℕ) → fits rule default ≡ true → MatchOption o (n ≡ default) (λ d. SpellsNumber rule d n) → fits rule n ≡ true

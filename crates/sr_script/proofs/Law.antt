@@ -3,7 +3,8 @@ use Rattle.std.proofs.Common.{◌≡◌, length, Ok, sym, subst}
 use Rattle.toml.specs.Data.{Members}
 use Rattle.sr_script.specs.declared.section.Section.TheVariants.{Top}
 use Rattle.sr_script.specs.Judge.{keys_of}
-use Rattle.sr_script.specs.Walk.{Spelled, top_keys, only_known, shape_of, servers_of, vips_of, changes_of, script_in}
+use Rattle.sr_script.specs.Spelled.{Spelled, top_keys}
+use Rattle.sr_script.specs.Walk.{only_known, shape_of, servers_of, vips_of, changes_of, script_in}
 use Rattle.sr_script.specs.Schema.{Spells}
 use Rattle.sr_script.proofs.LawWords.{chain, ok_same, known_to, known_from}
 use Rattle.sr_script.proofs.LawShape.{shape_to, shape_from}

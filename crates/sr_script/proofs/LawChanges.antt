@@ -17,7 +17,8 @@ use Rattle.sr_script.specs.declared.rule.Rule.TheVariants.{Between, Below}
 use Rattle.sr_script.specs.Fault.{at_path, ◌>>=◌, each_after}
 use Rattle.sr_script.specs.Judge.{list_of, keys_of, has, wanted, elements, table, number, at_most}
 use Rattle.sr_script.specs.Path.{key_path, item_path}
-use Rattle.sr_script.specs.Walk.{only_known, pool_in, gives, change_keys, last_ms, takes_down, still_up, down_in, given_vip, take_down_in, give_in, what_in, due_in, change_table, change_in, elements_or_none, change_values, changes_of}
+use Rattle.sr_script.specs.Spelled.{last_ms, takes_down}
+use Rattle.sr_script.specs.Walk.{only_known, pool_in, gives, change_keys, still_up, down_in, given_vip, take_down_in, give_in, what_in, due_in, change_table, change_in, elements_or_none, change_values, changes_of}
 use Rattle.sr_script.specs.Schema.{IsAmong, HasOnly, At, SpellsNumber, SpellsPool, SpellsWhat, SpellsChange, IsStillUp, Follows, SpellsChanges}
 use Rattle.sr_script.proofs.LawWords.{chain, ok_same, at_path_ok, ok_or_ok, number_to, number_from, at_most_to, at_most_from, fresh_cases, known_to, known_from, each_to, each_from, SpellAll-length}
 use Rattle.sr_script.proofs.LawKeys.{has_known, lacks_key, has_at, wanted_to}

@@ -10,7 +10,8 @@ use Rattle.sr_script.specs.Address.{address_of}
 use Rattle.sr_script.specs.Fault.{Reading, ◌>>=◌, at_path, each_after}
 use Rattle.sr_script.specs.Judge.{list_of, keys_of, wanted, text, elements, table, number, some, at_most, fresh}
 use Rattle.sr_script.specs.Path.{key_path, item_path}
-use Rattle.sr_script.specs.Walk.{Address, same_address, address, new_address, server_in, server_values, servers_of, new_server, member_in, pool_values, pool_in, only_known, vip_address, vip_table, vip_in, vip_after, vip_values, vips_in, vips_of, addresses_of, pools_of}
+use Rattle.sr_script.specs.Spelled.{Address, same_address, addresses_of, pools_of}
+use Rattle.sr_script.specs.Walk.{address, new_address, server_in, server_values, servers_of, new_server, member_in, pool_values, pool_in, only_known, vip_address, vip_table, vip_in, vip_after, vip_values, vips_in, vips_of}
 use Rattle.sr_script.specs.Schema.{IsArray, IsText, At, SpellAll, SpellsList, HasCount, EachAfter, IsNew, SpellsNumber, SpellsAddress, SpellsServers, SpellsPool, SpellsVip, SpellsVips}
 use Rattle.sr_script.proofs.LawWords.{bound, chain, ok_same, at_path_ok, ok_or_ok, number_to, number_from, some_to, some_from, at_most_to, at_most_from, fresh_to, known_to, known_from, each_to, each_from, SpellAll-length}
 use Rattle.sr_script.proofs.LawKeys.{wanted_to}

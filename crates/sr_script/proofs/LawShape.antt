@@ -9,7 +9,8 @@ use Rattle.sr_script.specs.declared.rule.Rule.TheVariants.{Between, PowerUpTo, F
 use Rattle.sr_script.specs.Fault.{at_path}
 use Rattle.sr_script.specs.Judge.{keys_of, table}
 use Rattle.sr_script.specs.Path.{key_path}
-use Rattle.sr_script.specs.Walk.{only_known, default_shape, shape_keys, number_or, shape_number, shape_in, shape_or, shape_of}
+use Rattle.sr_script.specs.Spelled.{default_shape, shape_keys}
+use Rattle.sr_script.specs.Walk.{only_known, number_or, shape_number, shape_in, shape_or, shape_of}
 use Rattle.sr_script.specs.Schema.{IsTable, SpellsNumber, SpellsOr, SpellsShape}
 use Rattle.sr_script.proofs.LawWords.{chain, ok_same, at_path_ok, ok_or_ok, number_to, number_from, known_to, known_from}
 

@@ -13,7 +13,8 @@ use Rattle.sr_script.specs.declared.rule.Rule.TheVariants.{Between, PowerUpTo, F
 use Rattle.sr_script.specs.Fault.{Fault, Judgement, Reading, ◌>>=◌, at_path, each_after}
 use Rattle.sr_script.specs.Judge.{keys_of, has, wanted, text, whole, elements, table, fits, by_rule, number, some, at_most, fresh}
 use Rattle.sr_script.specs.Path.{key_path, item_path}
-use Rattle.sr_script.specs.Walk.{Address, Spelled, shape_keys, top_keys, change_keys, gives, last_ms, addresses_of, only_known, number_or, shape_number, shape_in, shape_or, shape_of, address, same_address, new_address, server_in, server_values, servers_of, new_server, member_in, pool_values, pool_in, vip_address, vip_table, vip_in, vip_after, vip_values, vips_in, vips_of, still_up, takes_down, down_in, given_vip, take_down_in, give_in, what_in, due_in, change_table, change_in, elements_or_none, change_values, changes_of, script_in}
+use Rattle.sr_script.specs.Spelled.{Address, Spelled, shape_keys, top_keys, last_ms, addresses_of, same_address, takes_down}
+use Rattle.sr_script.specs.Walk.{change_keys, gives, only_known, number_or, shape_number, shape_in, shape_or, shape_of, address, new_address, server_in, server_values, servers_of, new_server, member_in, pool_values, pool_in, vip_address, vip_table, vip_in, vip_after, vip_values, vips_in, vips_of, still_up, down_in, given_vip, take_down_in, give_in, what_in, due_in, change_table, change_in, elements_or_none, change_values, changes_of, script_in}
 
 -- a reason that a tree can have
 abbrev pub OfTree : Why → Type 0

@@ -8,7 +8,8 @@ use Rattle.toml.specs.View.{view}
 use Rattle.sr_script.specs.declared.refusal.ParseRefusal.{ParseRefusal}
 use Rattle.sr_script.specs.declared.refusal.ParseRefusal.TheVariants.{Script, Memory}
 use Rattle.sr_script.specs.Fault.{Reading, ◌>>=◌, each_after, Fails}
-use Rattle.sr_script.specs.Walk.{Address, addresses_of, pools_of, vip_after, vip_in, vips_in}
+use Rattle.sr_script.specs.Spelled.{Address, addresses_of, pools_of}
+use Rattle.sr_script.specs.Walk.{vip_after, vip_in, vips_in}
 
 -- want of memory stands beside every reading
 pub fails_memory : {A : Type 0} (r : Reading A) → Fails Memory r

@@ -1,7 +1,7 @@
 -- What a script's numbers are good for: its shape, and how many virtual addresses and servers it has, make a layout.
 use Rattle.std.specs.Prelude.{◌≡◌, length, None}
 use Rattle.sr_base.specs.Limit.{limit_of}
-use Rattle.sr_script.specs.Walk.{Spelled}
+use Rattle.sr_script.specs.Spelled.{Spelled}
 
 -- no number is outside its range, and each virtual address has a first pool
 pub record IsFitting (s : Spelled) : Type 0 where

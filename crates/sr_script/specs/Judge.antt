@@ -14,6 +14,7 @@ abbrev pub list_of : Items → List Data
 list_of no_items = []
 list_of (item d ds) = d ∷ list_of ds
 
+-- the keys of a table, in their order
 abbrev pub keys_of : Members → List (List ℕ)
 keys_of no_members = []
 keys_of (member key d ms) = key ∷ keys_of ms
@@ -30,12 +31,15 @@ wanted key t = ok_or (get_member key t) Missing
 abbrev pub text : Data → Judgement (List ℕ)
 text d = ok_or (as_str d) WrongType
 
+-- the whole number that a value is
 abbrev pub whole : Data → Judgement ℤ
 whole d = ok_or (as_integer d) WrongType
 
+-- the elements of the array that a value is
 abbrev pub elements : Data → Judgement (List Data)
 elements d = ok_or (option_map list_of (as_array d)) WrongType
 
+-- the table that a value is
 abbrev pub table : Data → Judgement Members
 table d = ok_or (as_table d) WrongType
 
@@ -58,6 +62,7 @@ abbrev pub by_rule : Rule → Why → ℤ → Judgement ℕ
 by_rule rule why (pos n) = if fits rule n then Ok n else Err why
 by_rule rule why (negsuc n) = Err why
 
+-- a number of the rule; this reason where it is none
 abbrev pub number : Rule → Why → Data → Judgement ℕ
 number rule why d = whole d >>= by_rule rule why
 
@@ -66,6 +71,7 @@ abbrev pub some : {A : Type 0} → Why → List A → Judgement (List A)
 some why [] = Err why
 some why (x ∷ xs) = Ok (x ∷ xs)
 
+-- an array of so many elements at most
 abbrev pub at_most : {A : Type 0} → ℕ → Why → List A → Judgement (List A)
 at_most most why xs = if nat_le (length xs) most then Ok xs else Err why
 

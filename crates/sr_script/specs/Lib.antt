@@ -1,10 +1,12 @@
 pub mod Address
+pub mod AddressList
 pub mod Fault
 pub mod Fitting
 pub mod Judge
 pub mod Path
 pub mod Schema
 pub mod Script
+pub mod Spelled
 pub mod VipList
 pub mod Walk
 pub mod Why

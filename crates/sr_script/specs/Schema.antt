@@ -11,7 +11,7 @@ use Rattle.sr_script.specs.declared.rule.Rule.{Rule}
 use Rattle.sr_script.specs.declared.rule.Rule.TheVariants.{Between, PowerUpTo, FoursUpTo, Below}
 use Rattle.sr_script.specs.Address.{address_of}
 use Rattle.sr_script.specs.Judge.{list_of, keys_of, has, fits}
-use Rattle.sr_script.specs.Walk.{Address, Spelled, default_shape, shape_keys, top_keys, same_address, addresses_of, pools_of, last_ms, takes_down}
+use Rattle.sr_script.specs.Spelled.{Address, Spelled, default_shape, shape_keys, top_keys, same_address, addresses_of, pools_of, last_ms, takes_down}
 
 -- ---- words
 
@@ -19,12 +19,15 @@ use Rattle.sr_script.specs.Walk.{Address, Spelled, default_shape, shape_keys, to
 abbrev pub IsText : Data → List ℕ → Type 0
 IsText d bytes = as_str d ≡ Some bytes
 
+-- the value is this whole number
 abbrev pub IsWhole : Data → ℤ → Type 0
 IsWhole d z = as_integer d ≡ Some z
 
+-- the value is an array with these elements
 abbrev pub IsArray : Data → List Data → Type 0
 IsArray d ds = option_map list_of (as_array d) ≡ Some ds
 
+-- the value is this table
 abbrev pub IsTable : Data → Members → Type 0
 IsTable d t = as_table d ≡ Some t
 
@@ -80,19 +83,20 @@ SpellsAddress d a = (bytes : List ℕ) × IsText d bytes × (address_of bytes �
 abbrev pub SpellsOr : List ℕ → ℕ → Rule → Members → ℕ → Type 0
 SpellsOr key default rule t n = MatchOption (get_member key t) (n ≡ default) (λ d. SpellsNumber rule d n)
 
+-- The table has no other keys than those of a shape. Each number is a whole one in its range, or the default where its key is missing.
 pub record SpellsShape (t : Members) (s : Shape) : Type 0 where
   pub keys : HasOnly shape_keys t
-  pub pipes : SpellsOr (codes "pipes") 8 (Between 1 16) t s.pipes
-  pub buckets : SpellsOr (codes "buckets") 8192 (PowerUpTo 65536) t s.buckets
-  pub digest_bits : SpellsOr (codes "digest_bits") 16 (Between 0 16) t s.digest_bits
-  pub versions : SpellsOr (codes "versions") 64 (Between 2 64) t s.versions
-  pub pool_max : SpellsOr (codes "pool_max") 16 (Between 1 255) t s.pool_max
-  pub full_rows : SpellsOr (codes "full_rows") 1024 (FoursUpTo 65536) t s.full_rows
-  pub filter_bits : SpellsOr (codes "filter_bits") 65536 (PowerUpTo 1048576) t s.filter_bits
-  pub ring : SpellsOr (codes "ring") 65536 (Between 1 65536) t s.ring
-  pub window_ms : SpellsOr (codes "window_ms") 100 (Between 1 60000) t s.window_ms
-  pub idle_ms : SpellsOr (codes "idle_ms") 10000 (Between 1 86400000) t s.idle_ms
-  pub lives : SpellsOr (codes "lives") 3 (Between 1 255) t s.lives
+  pub pipes : SpellsOr (codes "pipes") default_shape.pipes (Between 1 16) t s.pipes
+  pub buckets : SpellsOr (codes "buckets") default_shape.buckets (PowerUpTo 65536) t s.buckets
+  pub digest_bits : SpellsOr (codes "digest_bits") default_shape.digest_bits (Between 0 16) t s.digest_bits
+  pub versions : SpellsOr (codes "versions") default_shape.versions (Between 2 64) t s.versions
+  pub pool_max : SpellsOr (codes "pool_max") default_shape.pool_max (Between 1 255) t s.pool_max
+  pub full_rows : SpellsOr (codes "full_rows") default_shape.full_rows (FoursUpTo 65536) t s.full_rows
+  pub filter_bits : SpellsOr (codes "filter_bits") default_shape.filter_bits (PowerUpTo 1048576) t s.filter_bits
+  pub ring : SpellsOr (codes "ring") default_shape.ring (Between 1 65536) t s.ring
+  pub window_ms : SpellsOr (codes "window_ms") default_shape.window_ms (Between 1 60000) t s.window_ms
+  pub idle_ms : SpellsOr (codes "idle_ms") default_shape.idle_ms (Between 1 86400000) t s.idle_ms
+  pub lives : SpellsOr (codes "lives") default_shape.lives (Between 1 255) t s.lives
 
 -- ---- servers, pools and virtual addresses
 
@@ -131,6 +135,7 @@ SpellsWhat pool_max servers vips t (Give vip pool) =
 SpellsWhat pool_max servers vips t (TakeDown server) =
     (has (codes "vip") t ≡ false) × (has (codes "pool") t ≡ false) × At (codes "down") t (λ d. SpellsNumber (Below servers) d server)
 
+-- a change: when it is due, in milliseconds of the capture, and what it does
 pub record SpellsChange (pool_max servers vips : ℕ) (d : Data) (c : Change) : Type 0 where
   pub table : Members
   pub is_table : IsTable d table

@@ -7,7 +7,8 @@ use Rattle.sr_script.specs.declared.why.Why.TheVariants.{NotToml}
 use Rattle.sr_script.specs.declared.refusal.ParseRefusal.{ParseRefusal}
 use Rattle.sr_script.specs.declared.refusal.ParseRefusal.TheVariants.{Script, Memory}
 use Rattle.sr_script.specs.Fault.{Fault, fault_of}
-use Rattle.sr_script.specs.Walk.{Spelled, script_in}
+use Rattle.sr_script.specs.Spelled.{Spelled}
+use Rattle.sr_script.specs.Walk.{script_in}
 use Rattle.sr_script.specs.Schema.{Spells}
 
 -- what a script says

@@ -1,5 +1,5 @@
 -- The walk through the tree of a script: the script that the tree spells, or the first fault and its path.
-use Rattle.std.specs.Prelude.{ℕ, Bool, true, false, ◌||◌, ◌&&◌, ◌==◌, nat_eq, List, [], ◌∷◌, codes, length, ◌-◌, map, if◌then◌else◌, Option, Some, None, option_map, unwrap_or, ok_or, slice_get, Ok, Err}
+use Rattle.std.specs.Prelude.{ℕ, Bool, true, false, ◌||◌, nat_eq, List, [], ◌∷◌, codes, length, if◌then◌else◌, Option, Some, None, ok_or, Ok, Err}
 use Rattle.std.specs.List.{list_any}
 use Rattle.std.specs.Str.{bytes_eq}
 use Rattle.toml.specs.Data.{Data, Members, get_member}
@@ -13,21 +13,10 @@ use Rattle.sr_script.specs.declared.section.Section.TheVariants.{Top, Shape, Vip
 use Rattle.sr_script.specs.declared.rule.Rule.{Rule}
 use Rattle.sr_script.specs.declared.rule.Rule.TheVariants.{Between, PowerUpTo, FoursUpTo, Below}
 use Rattle.sr_script.specs.Address.{address_of}
+use Rattle.sr_script.specs.Spelled.{Address, Spelled, top_keys, shape_keys, default_shape, same_address, addresses_of, pools_of, last_ms, takes_down}
 use Rattle.sr_script.specs.Fault.{Judgement, Reading, ◌>>=◌, at_path, each_after}
 use Rattle.sr_script.specs.Path.{key_path, item_path}
 use Rattle.sr_script.specs.Judge.{keys_of, has, wanted, text, elements, table, number, some, at_most, fresh}
-
--- an address and a port
-abbrev pub Address : Type 0
-Address = ℕ × ℕ
-
--- what a script says
-pub record Spelled : Type 0 where
-  pub shape : shape.Shape
-  pub vips : List Address
-  pub servers : List Address
-  pub first : List (List ℕ)
-  pub changes : List change
 
 -- the unknown keys of a table, in the table's order, which is that of their bytes
 unfoldable pub only_known : Section → List (List ℕ) → List (List ℕ) → Reading (Unit {0})
@@ -38,32 +27,12 @@ only_known section known (key ∷ keys) =
 
 -- ---- the shape
 
--- the numbers of a shape that says nothing
-abbrev pub default_shape : shape.Shape
-default_shape = record {
-  pipes = 8;
-  buckets = 8192;
-  digest_bits = 16;
-  versions = 64;
-  pool_max = 16;
-  full_rows = 1024;
-  filter_bits = 65536;
-  ring = 65536;
-  window_ms = 100;
-  idle_ms = 10000;
-  lives = 3;
-}
-
--- the keys of a shape
-abbrev pub shape_keys : List (List ℕ)
-shape_keys = codes "pipes" ∷ codes "buckets" ∷ codes "digest_bits" ∷ codes "versions" ∷ codes "pool_max" ∷ codes "full_rows"
-    ∷ codes "filter_bits" ∷ codes "ring" ∷ codes "window_ms" ∷ codes "idle_ms" ∷ codes "lives" ∷ []
-
 -- a number of the shape, or the default where the key is missing
 abbrev pub number_or : ℕ → Rule → Option Data → Judgement ℕ
 number_or default rule None = Ok default
 number_or default rule (Some d) = number rule OutOfRange d
 
+-- a number at a key of the shape's table
 unfoldable pub shape_number : List ℕ → ℕ → Rule → Members → Reading ℕ
 shape_number key default rule t = at_path (key_path Shape key) (number_or default rule (get_member key t))
 
@@ -96,22 +65,22 @@ shape_in t = do
     lives = lives;
   })
 
+-- the shape of the value at `shape`, or the default where there is none
 abbrev pub shape_or : Option Data → Reading shape.Shape
 shape_or None = Ok default_shape
 shape_or (Some d) = at_path (key_path Top (codes "shape")) (table d) >>= shape_in
 
+-- the shape of a script
 unfoldable pub shape_of : Members → Reading shape.Shape
 shape_of t = shape_or (get_member (codes "shape") t)
 
 -- ---- the servers
 
-abbrev pub same_address : Address → Address → Bool
-same_address a b = (a.0 == b.0) && (a.1 == b.1)
-
 -- an address text whose address is none of those before it
 abbrev pub address : List ℕ → Judgement Address
 address bytes = ok_or (address_of bytes) OutOfRange
 
+-- the address that a value spells, where it is none of those before it
 unfoldable pub new_address : List Address → Data → Judgement Address
 new_address before d = text d >>= address >>= fresh same_address before
 
@@ -119,9 +88,11 @@ new_address before d = text d >>= address >>= fresh same_address before
 abbrev pub server_in : List Address → Data → Reading Address
 server_in before d = at_path (item_path Top (codes "servers") (length before)) (new_address before d)
 
+-- the values at `servers`: an array of 1 to 65,536
 unfoldable pub server_values : Members → Judgement (List Data)
 server_values t = wanted (codes "servers") t >>= elements >>= some OutOfRange >>= at_most 65536 OutOfRange
 
+-- the servers of a script, in their order
 unfoldable pub servers_of : Members → Reading (List Address)
 servers_of t = at_path (key_path Top (codes "servers")) (server_values t) >>= each_after server_in []
 
@@ -135,14 +106,17 @@ new_server servers before d = number (Below servers) NoSuchServer d >>= fresh na
 abbrev pub member_in : Section → ℕ → List ℕ → Data → Reading ℕ
 member_in section servers before d = at_path (item_path section (codes "pool") (length before)) (new_server servers before d)
 
+-- the values at `pool`: an array of 1 to `pool_max`
 unfoldable pub pool_values : ℕ → Members → Judgement (List Data)
 pool_values pool_max t = wanted (codes "pool") t >>= elements >>= some EmptyPool >>= at_most pool_max PoolTooLarge
 
+-- the pool of a table
 unfoldable pub pool_in : Section → ℕ → ℕ → Members → Reading (List ℕ)
 pool_in section pool_max servers t = at_path (key_path section (codes "pool")) (pool_values pool_max t) >>= each_after (member_in section servers) []
 
 -- ---- the virtual addresses
 
+-- the address of a virtual address, where it is none of those before it
 unfoldable pub vip_address : List Address → Members → Judgement Address
 vip_address before t = wanted (codes "addr") t >>= new_address before
 
@@ -154,20 +128,15 @@ vip_table pool_max servers before t = do
   pool ← pool_in (Vip (length before)) pool_max servers t
   Ok (vip, pool)
 
+-- a virtual address and its pool, after those before it
 unfoldable pub vip_in : ℕ → ℕ → List Address → Data → Reading (Address × List ℕ)
 vip_in pool_max servers before d = at_path (item_path Top (codes "vip") (length before)) (table d) >>= vip_table pool_max servers before
-
--- the addresses of some virtual addresses with their pools, and the pools
-abbrev pub addresses_of : List (Address × List ℕ) → List Address
-addresses_of = map (λ v. v.0)
-
-abbrev pub pools_of : List (Address × List ℕ) → List (List ℕ)
-pools_of = map (λ v. v.1)
 
 -- a virtual address after those before it
 abbrev pub vip_after : ℕ → ℕ → List (Address × List ℕ) → Data → Reading (Address × List ℕ)
 vip_after pool_max servers before d = vip_in pool_max servers (addresses_of before) d
 
+-- the values at `vip`: an array of 1 to 16
 unfoldable pub vip_values : Members → Judgement (List Data)
 vip_values t = wanted (codes "vip") t >>= elements >>= some OutOfRange >>= at_most 16 TooManyVips
 
@@ -175,6 +144,7 @@ vip_values t = wanted (codes "vip") t >>= elements >>= some OutOfRange >>= at_mo
 unfoldable pub vips_in : ℕ → ℕ → List Data → Reading (List Address × List (List ℕ))
 vips_in pool_max servers values = each_after (vip_after pool_max servers) [] values >>= (λ vips. Ok (addresses_of vips, pools_of vips))
 
+-- the virtual addresses of a script, and their pools
 unfoldable pub vips_of : ℕ → ℕ → Members → Reading (List Address × List (List ℕ))
 vips_of pool_max servers t = at_path (key_path Top (codes "vip")) (vip_values t) >>= vips_in pool_max servers
 
@@ -184,34 +154,30 @@ vips_of pool_max servers t = at_path (key_path Top (codes "vip")) (vip_values t)
 abbrev pub gives : Members → Bool
 gives t = has (codes "vip") t || has (codes "pool") t
 
+-- the keys of a change that gives a pool, and of one that doesn't
 abbrev pub change_keys : Bool → List (List ℕ)
 change_keys true = codes "at_ms" ∷ codes "vip" ∷ codes "pool" ∷ []
 change_keys false = codes "at_ms" ∷ codes "vip" ∷ codes "pool" ∷ codes "down" ∷ []
-
--- when the last change is due, or 0
-abbrev pub last_ms : List change → ℕ
-last_ms before = unwrap_or (option_map (λ c. c.at_ms) (slice_get before (length before - 1))) 0
-
--- whether a change takes the server down
-abbrev pub takes_down : ℕ → What → Bool
-takes_down server (Give vip pool) = false
-takes_down server (TakeDown other) = other == server
 
 -- a server that no change before takes down
 abbrev pub still_up : List change → ℕ → Judgement ℕ
 still_up before server = if list_any (λ c. takes_down server c.what) before then Err Repeated else Ok server
 
+-- the server that a change takes down
 unfoldable pub down_in : ℕ → List change → Members → Judgement ℕ
 down_in servers before t = wanted (codes "down") t >>= number (Below servers) NoSuchServer >>= still_up before
 
+-- the virtual address whose pool a change gives
 unfoldable pub given_vip : ℕ → Members → Judgement ℕ
 given_vip vips t = wanted (codes "vip") t >>= number (Below vips) NoSuchVip
 
+-- a change that takes a server down
 unfoldable pub take_down_in : Section → ℕ → List change → Members → Reading What
 take_down_in section servers before t = do
   server ← at_path (key_path section (codes "down")) (down_in servers before t)
   Ok (TakeDown server)
 
+-- a change that gives a virtual address a pool
 unfoldable pub give_in : Section → ℕ → ℕ → ℕ → Members → Reading What
 give_in section pool_max servers vips t = do
   vip ← at_path (key_path section (codes "vip")) (given_vip vips t)
@@ -240,21 +206,22 @@ unfoldable pub change_in : ℕ → ℕ → ℕ → List change → Data → Read
 change_in pool_max servers vips before d =
     at_path (item_path Top (codes "change") (length before)) (table d) >>= change_table pool_max servers vips before
 
+-- the elements of an array that may be missing
 abbrev pub elements_or_none : Option Data → Judgement (List Data)
 elements_or_none None = Ok []
 elements_or_none (Some d) = elements d
 
+-- the values at `change`: an array of 4,096 at most, or none
 unfoldable pub change_values : Members → Judgement (List Data)
 change_values t = elements_or_none (get_member (codes "change") t) >>= at_most 4096 TooManyChanges
 
+-- the changes of a script, in their order
 unfoldable pub changes_of : ℕ → ℕ → ℕ → Members → Reading (List change)
 changes_of pool_max servers vips t = at_path (key_path Top (codes "change")) (change_values t) >>= each_after (change_in pool_max servers vips) []
 
 -- ---- the script
 
-abbrev pub top_keys : List (List ℕ)
-top_keys = codes "shape" ∷ codes "servers" ∷ codes "vip" ∷ codes "change" ∷ []
-
+-- the script that a tree spells: its shape, its servers, its virtual addresses, its changes, in this order
 unfoldable pub script_in : Members → Reading Spelled
 script_in t = do
   _ ← only_known Top top_keys (keys_of t)

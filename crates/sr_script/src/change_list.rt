@@ -1,7 +1,8 @@
 ghost use Rattle.std.specs.Prelude.{◌≡◌, ◌<◌, ◌≤◌, map, length, vec_len, IfOk, []};
 ghost use Rattle.std.specs.List.{list_any};
 ghost use Rattle.sr_script.specs.Fault.{seen, Answers, each_after};
-ghost use Rattle.sr_script.specs.Walk.{gives, change_keys, last_ms, takes_down, still_up, down_in, given_vip, take_down_in, give_in, what_in, due_in, change_table, change_in, elements_or_none, change_values, changes_of};
+ghost use Rattle.sr_script.specs.Spelled.{last_ms, takes_down};
+ghost use Rattle.sr_script.specs.Walk.{gives, change_keys, still_up, down_in, given_vip, take_down_in, give_in, what_in, due_in, change_table, change_in, elements_or_none, change_values, changes_of};
 ghost use Rattle.toml.specs.View.{view, table_view};
 
 use crate::count::at_most;

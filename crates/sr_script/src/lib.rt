@@ -2,14 +2,17 @@
 //! pools, and the changes that come due during the run.
 //!
 //! - `parse` reads a text. It gives the script that the text's tree spells (`specs/Schema.antt`), and else the first fault of a walk through
-//!   that tree, with its path (`specs/Walk.antt`). That the two agree is a law (`proofs/Law.antt`), and part of `parse`'s contract.
+//!   that tree, with its path (`specs/Walk.antt`). Both speak in the words of `specs/Spelled.antt`. That the two agree is a law
+//!   (`proofs/Law.antt`), and part of `parse`'s contract.
 //! - `Script` is what a text says, `ScriptRefusal` why and where a text is no script, `Why` the reasons with their words.
 //! - `address` reads the text of an address and a port (`specs/Address.antt`).
 //!
-//! Inside, each part of a script has a file: `shape_table`, `servers`, `pool_array`, `vip_list`, `change_list`. They stand on `tree` (values
-//! of one type), `rule` (whole numbers in a range), `count` (how many elements), `known` (known keys) and `fault` (paths).
+//! Inside, each part of a script has a file: `shape_table`, `servers`, `pool_array`, `vip_list`, `change_list`. They stand on `address_list`
+//! (addresses, and a set of them), `tree` (values of one type), `rule` (whole numbers in a range), `count` (how many elements), `known`
+//! (known keys) and `fault` (paths).
 #![tactic(auto)]
 
+mod address_list;
 mod address_text;
 mod change_list;
 mod count;

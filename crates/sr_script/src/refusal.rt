@@ -2,7 +2,7 @@ ghost use Rattle.std.specs.Prelude.{◌≡◌};
 ghost use Rattle.sr_script.specs.declared.refusal.ParseRefusal.TheVariants.{Memory};
 
 use crate::Why;
-use std::alloc::AllocFailed;
+use std::alloc::{AllocError, AllocFailed};
 use thiserror::Error;
 
 /// Why and where a text is no script: the first fault of a walk through it.
@@ -30,6 +30,14 @@ impl<T: Drop> From<AllocFailed<T>> for ParseRefusal {
     ghost from_gives = { λ _ e. e ≡ Memory };
 
     fn from(_error: AllocFailed<T>) -> ParseRefusal {
+        ParseRefusal::Memory
+    }
+}
+
+impl From<AllocError> for ParseRefusal {
+    ghost from_gives = { λ _ e. e ≡ Memory };
+
+    fn from(_error: AllocError) -> ParseRefusal {
         ParseRefusal::Memory
     }
 }

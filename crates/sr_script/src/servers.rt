@@ -3,6 +3,7 @@ ghost use Rattle.sr_script.specs.Fault.{seen, Answers, each_after};
 ghost use Rattle.sr_script.specs.Walk.{new_address, server_in, server_values, servers_of};
 ghost use Rattle.toml.specs.View.{view, table_view};
 
+use crate::address_list::AddressList;
 use crate::address_text::address;
 use crate::count::{at_most, some};
 use crate::fault::{at_item, at_key};
@@ -40,20 +41,16 @@ fn servers_from(alloc: Global, values: &[Value]) -> Result<Vec<(u32, u16)>, Pars
     ensures value { Answers (λ v. v.items) result (each_after server_in [] (map view values.now)) }
     ensures count { IfOk result (λ v. vec_len v ≡ length values.now) }
 {
-    let mut servers = Vec::new(alloc);
+    let mut servers = AddressList::new(alloc);
     for value in values {
         let server = server_in(alloc, &servers, value)?;
         servers.push(server)?;
     }
-    Ok(servers)
+    Ok(servers.into_list())
 }
 
 // A server after those before it.
-fn server_in(
-    alloc: Global,
-    before: &[(u32, u16)],
-    value: &Value,
-) -> Result<(u32, u16), ParseRefusal>
+fn server_in(alloc: Global, before: &AddressList, value: &Value) -> Result<(u32, u16), ParseRefusal>
     ensures { Answers (λ a. a) result (server_in before.now (view value.now)) }
 {
     match new_address(before, value) {
@@ -64,7 +61,7 @@ fn server_in(
 
 /// The address of a text, where it is none of those before it.
 #[tactic(auto, unfolding(crate::specs::Walk::new_address))]
-pub fn new_address(before: &[(u32, u16)], value: &Value) -> Result<(u32, u16), Why>
+pub fn new_address(before: &AddressList, value: &Value) -> Result<(u32, u16), Why>
     ensures { result ≡ new_address before.now (view value.now) }
 {
     let Some(address) = address(text(value)?) else {

@@ -1,11 +1,13 @@
 ghost use Rattle.std.specs.Prelude.{◌≡◌, ◌≤◌, map, max, option_map, IfOk};
 ghost use Rattle.sr_script.specs.Fault.{Answers, at_path};
 ghost use Rattle.sr_script.specs.Judge.{most_of};
-ghost use Rattle.sr_script.specs.Walk.{default_shape, number_or, shape_number, shape_in, shape_or, shape_of};
+ghost use Rattle.sr_script.specs.Spelled.{default_shape};
+ghost use Rattle.sr_script.specs.Walk.{number_or, shape_number, shape_in, shape_or, shape_of};
 ghost use Rattle.toml.specs.View.{view, table_view};
 
 use crate::fault::at_key;
 use crate::known::only_known;
+use crate::rule::Rule::{Between, FoursUpTo, PowerUpTo};
 use crate::rule::{Rule, number};
 use crate::section::Section;
 use crate::tree::{member, table};
@@ -62,83 +64,22 @@ fn shape_in(alloc: Global, table: &Table) -> Result<Shape, ParseRefusal>
     ensures { Answers (λ s. s) result (shape_in (table_view table.now)) }
 {
     only_known(alloc, Section::Shape, table, &KEYS)?;
-    let pipes = shape_number(
-        alloc,
-        table,
-        "pipes",
-        DEFAULT.pipes as u64,
-        Rule::Between(1, 16),
-    )?;
-    let buckets = shape_number(
-        alloc,
-        table,
-        "buckets",
-        DEFAULT.buckets as u64,
-        Rule::PowerUpTo(65_536),
-    )?;
-    let digest_bits = shape_number(
-        alloc,
-        table,
-        "digest_bits",
-        DEFAULT.digest_bits as u64,
-        Rule::Between(0, 16),
-    )?;
-    let versions = shape_number(
-        alloc,
-        table,
-        "versions",
-        DEFAULT.versions as u64,
-        Rule::Between(2, 64),
-    )?;
-    let pool_max = shape_number(
-        alloc,
-        table,
-        "pool_max",
-        DEFAULT.pool_max as u64,
-        Rule::Between(1, 255),
-    )?;
-    let full_rows = shape_number(
-        alloc,
-        table,
-        "full_rows",
-        DEFAULT.full_rows as u64,
-        Rule::FoursUpTo(65_536),
-    )?;
-    let filter_bits = shape_number(
-        alloc,
-        table,
+    let numbers = ShapeNumbers { alloc, table };
+    let pipes = numbers.read("pipes", DEFAULT.pipes as u64, Between(1, 16))?;
+    let buckets = numbers.read("buckets", DEFAULT.buckets as u64, PowerUpTo(65_536))?;
+    let digest_bits = numbers.read("digest_bits", DEFAULT.digest_bits as u64, Between(0, 16))?;
+    let versions = numbers.read("versions", DEFAULT.versions as u64, Between(2, 64))?;
+    let pool_max = numbers.read("pool_max", DEFAULT.pool_max as u64, Between(1, 255))?;
+    let full_rows = numbers.read("full_rows", DEFAULT.full_rows as u64, FoursUpTo(65_536))?;
+    let filter_bits = numbers.read(
         "filter_bits",
         DEFAULT.filter_bits as u64,
-        Rule::PowerUpTo(1_048_576),
+        PowerUpTo(1_048_576),
     )?;
-    let ring = shape_number(
-        alloc,
-        table,
-        "ring",
-        DEFAULT.ring as u64,
-        Rule::Between(1, 65_536),
-    )?;
-    let window_ms = shape_number(
-        alloc,
-        table,
-        "window_ms",
-        DEFAULT.window_ms,
-        Rule::Between(1, 60_000),
-    )?;
-    let idle_ms = shape_number(
-        alloc,
-        table,
-        "idle_ms",
-        DEFAULT.idle_ms,
-        Rule::Between(1, 86_400_000),
-    )?;
-    let lives = shape_number(
-        alloc,
-        table,
-        "lives",
-        DEFAULT.lives as u64,
-        Rule::Between(1, 255),
-    )?;
+    let ring = numbers.read("ring", DEFAULT.ring as u64, Between(1, 65_536))?;
+    let window_ms = numbers.read("window_ms", DEFAULT.window_ms, Between(1, 60_000))?;
+    let idle_ms = numbers.read("idle_ms", DEFAULT.idle_ms, Between(1, 86_400_000))?;
+    let lives = numbers.read("lives", DEFAULT.lives as u64, Between(1, 255))?;
     Ok(Shape {
         pipes: pipes as u8,
         buckets: buckets as u32,
@@ -154,21 +95,24 @@ fn shape_in(alloc: Global, table: &Table) -> Result<Shape, ParseRefusal>
     })
 }
 
-// A number of the shape.
-#[tactic(auto, unfolding(crate::specs::Walk::shape_number))]
-fn shape_number(
+// The table of a shape, whose numbers are read one by one.
+#[derive(Clone, Copy)]
+struct ShapeNumbers<'a> {
     alloc: Global,
-    table: &Table,
-    key: &str,
-    default: u64,
-    rule: Rule,
-) -> Result<u64, ParseRefusal>
-    ensures value { Answers (λ n. n) result (shape_number key.now default rule (table_view table.now)) }
-    ensures bound { IfOk result (λ n. n ≤ max default (most_of rule)) }
-{
-    match number_or(member(table, key), default, rule) {
-        Ok(n) => Ok(n),
-        Err(why) => Err(at_key(alloc, why, Section::Shape, key)),
+    table: &'a Table,
+}
+
+impl<'a> ShapeNumbers<'a> {
+    // The number of a rule at a key, or the default where the key is missing.
+    #[tactic(auto, unfolding(crate::specs::Walk::shape_number))]
+    fn read(&self, key: &str, default: u64, rule: Rule) -> Result<u64, ParseRefusal>
+        ensures value { Answers (λ n. n) result (shape_number key.now default rule (table_view self.now.table.now)) }
+        ensures bound { IfOk result (λ n. n ≤ max default (most_of rule)) }
+    {
+        match number_or(member(self.table, key), default, rule) {
+            Ok(n) => Ok(n),
+            Err(why) => Err(at_key(self.alloc, why, Section::Shape, key)),
+        }
     }
 }
 

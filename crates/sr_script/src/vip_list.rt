@@ -4,6 +4,7 @@ ghost use Rattle.sr_script.specs.VipList.{parted};
 ghost use Rattle.sr_script.specs.Walk.{vip_address, vip_table, vip_in, vip_values, vips_in, vips_of};
 ghost use Rattle.toml.specs.View.{view, table_view};
 
+use crate::address_list::AddressList;
 use crate::count::{at_most, some};
 use crate::fault::{at_item, at_key, placed};
 use crate::known::only_known;
@@ -65,14 +66,17 @@ fn vips_from(
     ensures value { Answers parted result (vips_in pool_max servers (map view values.now)) }
     ensures count { IfOk result (λ v. vec_len v.addresses ≡ length values.now) }
 {
-    let mut addresses = Vec::new(alloc);
+    let mut addresses = AddressList::new(alloc);
     let mut pools = Vec::new(alloc);
     for value in values {
         let (address, pool) = vip_in(alloc, pool_max, servers, &addresses, value)?;
         addresses.push(address)?;
         pools.push(pool)?;
     }
-    Ok(VipList { addresses, pools })
+    Ok(VipList {
+        addresses: addresses.into_list(),
+        pools,
+    })
 }
 
 // A virtual address after those before it.
@@ -81,7 +85,7 @@ fn vip_in(
     alloc: Global,
     pool_max: u8,
     servers: usize,
-    before: &[(u32, u16)],
+    before: &AddressList,
     value: &Value,
 ) -> Result<((u32, u16), Pool), ParseRefusal>
     requires { servers ≤ 65536 }
@@ -98,7 +102,7 @@ fn vip_table(
     alloc: Global,
     pool_max: u8,
     servers: usize,
-    before: &[(u32, u16)],
+    before: &AddressList,
     table: &Table,
 ) -> Result<((u32, u16), Pool), ParseRefusal>
     requires { servers ≤ 65536 }
@@ -112,7 +116,7 @@ fn vip_table(
 }
 
 #[tactic(auto, unfolding(crate::specs::Walk::vip_address))]
-fn vip_address(before: &[(u32, u16)], table: &Table) -> Result<(u32, u16), Why>
+fn vip_address(before: &AddressList, table: &Table) -> Result<(u32, u16), Why>
     ensures { result ≡ vip_address before.now (table_view table.now) }
 {
     new_address(before, wanted(table, "addr")?)

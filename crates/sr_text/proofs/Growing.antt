@@ -10,7 +10,7 @@ use Rattle.sr_frame.specs.declared.skip.Skip.{Skip}
 use Rattle.sr_law.specs.declared.line.Line.{Line}
 use Rattle.sr_text.specs.LineText.{head_text, line_text, skip_text, log_text}
 use Rattle.sr_text.specs.Ranges.{IsLine}
-use Rattle.sr_text.specs.Log.{IsLog, LineNext, SkipNext, GoesOn, IsFirstBad, IsRead, Reads, ReadsBack, line_count}
+use Rattle.sr_text.specs.Log.{IsLog, LineNext, SkipNext, GoesOn, IsFirstBad, IsRead, Reads, ReadsBack, line_count, most_lines}
 use Rattle.sr_text.specs.Window.{IsFull, Pending, WindowView}
 use Rattle.sr_text.specs.Adding.{Adds, AddsTo, Bodies, Heads, TakesOne, Reached, Strays}
 use Rattle.sr_text.specs.Fronts.{after_word}
@@ -121,7 +121,7 @@ strays_here ss ts ls ms w left bytes rest full some out es el text p = record {
 }
 
 -- the line after these is bad
-pub bad_here : (number : ℕ) (ss ts : List (ℕ × Skip)) (ls ms : List Line) (bytes : List ℕ) → IsLog ss ls → number ≡ 1 + line_count ss ls → number ≤ 33554433 → ts ≡ ss → ms ≡ ls → Strays ts ms bytes → IsFirstBad number bytes
+pub bad_here : (number : ℕ) (ss ts : List (ℕ × Skip)) (ls ms : List Line) (bytes : List ℕ) → IsLog ss ls → number ≡ 1 + line_count ss ls → number ≤ most_lines + 1 → ts ≡ ss → ms ≡ ls → Strays ts ms bytes → IsFirstBad number bytes
 bad_here number ss ts ls ms bytes log next within es el s =
     let a = ap (λ (l : List (ℕ × Skip)). length l) es in
     let b = ap (λ (l : List Line). length l) el in
@@ -140,7 +140,7 @@ bad_here number ss ts ls ms bytes log next within es el s =
     )
 
 -- the line after the last that a log may have
-pub past_here : (ss : List (ℕ × Skip)) (ls : List Line) (w : WindowView) (left : Option (List ℕ)) (bytes : List ℕ) → IsLog ss ls → line_count ss ls ≡ 33554432 → 0 < length w.unread → (r : Reached ss ls w left bytes) → IsFirstBad 33554433 bytes
+pub past_here : (ss : List (ℕ × Skip)) (ls : List Line) (w : WindowView) (left : Option (List ℕ)) (bytes : List ℕ) → IsLog ss ls → line_count ss ls ≡ most_lines → 0 < length w.unread → (r : Reached ss ls w left bytes) → IsFirstBad (most_lines + 1) bytes
 past_here ss ls w left bytes log count some r =
     inr (
       ss,
@@ -201,7 +201,7 @@ body_reads skips lines ReadFault ss ls left bytes h = tt
 body_reads skips lines Memory ss ls left bytes h = tt
 
 -- what was printed is read back
-pub reads_back : {L : Type 0} (skips : L → List (ℕ × Skip)) (lines : L → List Line) (r : Result L LogRefusal) (ss : List (ℕ × Skip)) (ls : List Line) (left : Option (List ℕ)) → IsLog ss ls → line_count ss ls ≤ 33554432
+pub reads_back : {L : Type 0} (skips : L → List (ℕ × Skip)) (lines : L → List Line) (r : Result L LogRefusal) (ss : List (ℕ × Skip)) (ls : List Line) (left : Option (List ℕ)) → IsLog ss ls → line_count ss ls ≤ most_lines
     → Reads skips lines r (log_text ss ls) left → IsRead skips lines r → ReadsBack skips lines r ss ls
 reads_back skips lines (Ok log) ss ls left w limit h i = one_log (skips log) ss (lines log) ls i.0 w h.0
 reads_back skips lines (Err (BadLine number)) ss ls left w limit h i = none_bad number ss ls w limit h

@@ -9,7 +9,7 @@ use Rattle.sr_frame.specs.declared.skip.Skip.{Skip}
 use Rattle.sr_law.specs.declared.line.Line.{Line}
 use Rattle.sr_text.specs.LineText.{head_text, line_text, skip_word, skip_text, log_text}
 use Rattle.sr_text.specs.Ranges.{IsLine, IsSkipped}
-use Rattle.sr_text.specs.Log.{IsLog, LineNext, SkipNext, GoesOn, IsFirstBad, line_count}
+use Rattle.sr_text.specs.Log.{IsLog, LineNext, SkipNext, GoesOn, IsFirstBad, line_count, most_lines}
 use Rattle.sr_text.specs.Fronts.{line_front, skip_front, name_front, change_name_front}
 use Rattle.sr_text.proofs.FieldTexts.{skip_there, skip_takes}
 use Rattle.sr_text.proofs.LineTexts.{line_there, line_takes}
@@ -143,7 +143,7 @@ one_log skips all_skips lines all_lines f w e =
     ]
 
 -- no line of a text of the grammar is bad, up to the limit
-pub none_bad : (number : ℕ) (all_skips : List (ℕ × Skip)) (all_lines : List Line) → IsLog all_skips all_lines → line_count all_skips all_lines ≤ 33554432 → IsFirstBad number (log_text all_skips all_lines) → ⊥
+pub none_bad : (number : ℕ) (all_skips : List (ℕ × Skip)) (all_lines : List Line) → IsLog all_skips all_lines → line_count all_skips all_lines ≤ most_lines → IsFirstBad number (log_text all_skips all_lines) → ⊥
 none_bad number all_skips all_lines w limit (inl h) = h.1 (body all_skips all_lines) refl
 none_bad number all_skips all_lines w limit (inr h) =
     let b = h.3 in
@@ -151,6 +151,6 @@ none_bad number all_skips all_lines w limit (inr h) =
       | inl same ↦ b.more same.0
       | inr on ↦ elim b.outside [
         | inl out ↦ out on.0
-        | inr past ↦ let t = on.1 in let c : line_count h.0 h.1 ≡ 33554432 = past in absurd (omega arith)
+        | inr past ↦ let t = on.1 in let c : line_count h.0 h.1 ≡ most_lines = past in absurd (omega arith)
       ]
     ]

@@ -3,7 +3,7 @@ use Rattle.std.specs.Prelude.{◌≡◌, ◌≢◌, ℕ, ◌+◌, ◌≤◌, Lis
 use Rattle.sr_frame.specs.declared.skip.Skip.{Skip}
 use Rattle.sr_law.specs.declared.line.Line.{Line}
 use Rattle.sr_text.specs.LineText.{head_text, log_text}
-use Rattle.sr_text.specs.Log.{IsLog, GoesOn, IsFirstBad, line_count}
+use Rattle.sr_text.specs.Log.{IsLog, GoesOn, IsFirstBad, line_count, most_lines}
 use Rattle.sr_text.specs.Window.{Pending, WindowView}
 use Rattle.sr_text.specs.declared.adding.Added.{Added}
 use Rattle.sr_text.specs.declared.adding.Added.TheVariants as added
@@ -35,6 +35,7 @@ pub record TakesOne (old new : WindowView) (ss : List (ℕ × Skip)) (ls : List 
   pub numbers : IsLog ss ls → IsLog ts ms
   pub count : line_count ts ms ≡ 1 + line_count ss ls
 
+-- A line was added to one of the two lists; or none that can come next is there, and all is as it was.
 abbrev pub Adds : Added → WindowView → WindowView → List (ℕ × Skip) → List Line → List (ℕ × Skip) → List Line → Type 0
 Adds added.Line old new ss ls ts ms = TakesOne old new ss ls ts ms
 Adds added.Nothing old new ss ls ts ms = (¬ (GoesOn ls old.unread)) × (new ≡ old) × (ts ≡ ss) × (ms ≡ ls)
@@ -85,8 +86,8 @@ Bodies (Err Memory) ss ls left bytes = Unit {0}
 
 -- what any source allows
 abbrev pub IsBody : Result (Unit {0}) LogRefusal → List (ℕ × Skip) → List Line → Type 0
-IsBody (Ok done) ss ls = IsLog ss ls × (line_count ss ls ≤ 33554432)
-IsBody (Err (BadLine number)) ss ls = (1 ≤ number) × (number ≤ 33554433)
+IsBody (Ok done) ss ls = IsLog ss ls × (line_count ss ls ≤ most_lines)
+IsBody (Err (BadLine number)) ss ls = (1 ≤ number) × (number ≤ most_lines + 1)
 IsBody (Err ReadFault) ss ls = Unit {0}
 IsBody (Err Memory) ss ls = Unit {0}
 

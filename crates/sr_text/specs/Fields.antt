@@ -26,6 +26,7 @@ address_text ip rest = dotted (ip / 16777216) (dotted (ip / 65536 % 256) (dotted
 unfoldable pub key_text : KeyView → List ℕ → List ℕ
 key_text key rest = decimal key.vip ++ 47 ∷ address_text key.ip (58 ∷ (decimal key.port ++ rest))
 
+-- what a packet is to its connection
 abbrev pub kind_text : Kind → List ℕ → List ℕ
 kind_text Opener rest = codes "open" ++ rest
 kind_text Carry rest = codes "data" ++ rest
@@ -40,6 +41,7 @@ place_text (Row row) rest = 102 ∷ (decimal row ++ rest)
 abbrev pub choice_text : ℕ → ℕ → ℕ → List ℕ → List ℕ
 choice_text server version pool rest = field server (field version (decimal pool ++ rest))
 
+-- What became of a packet: where it went; by what it was held; where it would have gone but the server is down; no room for its key; no place.
 unfoldable pub verdict_text : Verdict → List ℕ → List ℕ
 verdict_text (To server version pool) rest = codes "to " ++ choice_text server version pool rest
 verdict_text (Held Clash) rest = codes "held clash" ++ rest

@@ -63,6 +63,7 @@ key_front ending bytes = do
 unfoldable pub kind_front : List ℕ → Option (Kind × List ℕ)
 kind_front bytes = said Opener (codes "open ") bytes (said Carry (codes "data ") bytes (said Ending (codes "end ") bytes None))
 
+-- a way, a bucket and a cell, and the line's end
 unfoldable pub slot_front : List ℕ → Option (Place × List ℕ)
 slot_front bytes = do
   way ← field_front 255 98 bytes
@@ -70,6 +71,7 @@ slot_front bytes = do
   cell ← field_front 255 10 bucket.1
   Some (Slot way.0 bucket.0 cell.0, cell.1)
 
+-- a row, and the line's end
 unfoldable pub row_front : List ℕ → Option (Place × List ℕ)
 row_front bytes = do
   row ← field_front 4294967295 10 bytes
@@ -87,11 +89,13 @@ choice_front bytes = do
   pool ← field_front 18446744073709551615 10 version.1
   Some (server.0, version.0, pool.0, pool.1)
 
+-- where a packet went, and the line's end
 unfoldable pub to_front : List ℕ → Option (Verdict × List ℕ)
 to_front bytes = do
   choice ← choice_front bytes
   Some (To choice.0 choice.1 choice.2, choice.3)
 
+-- where it would have gone, and the line's end
 unfoldable pub down_front : List ℕ → Option (Verdict × List ℕ)
 down_front bytes = do
   choice ← choice_front bytes
@@ -136,6 +140,7 @@ name_front bytes =
 abbrev pub tick_front : List ℕ → Option (ℕ × List ℕ)
 tick_front bytes = field_front 18446744073709551615 32 bytes
 
+-- the fields of a packet's line, and its end
 unfoldable pub packet_front : List ℕ → Option (Line × List ℕ)
 packet_front bytes = do
   number ← field_front 4294967295 32 bytes
@@ -147,6 +152,7 @@ packet_front bytes = do
   verdict ← verdict_front kind.1
   Some (Packet number.0 entered.0 out.0 pipe.0 key.0 kind.0 verdict.0, verdict.1)
 
+-- the fields of an answer's line, and its end
 unfoldable pub answer_front : List ℕ → Option (Line × List ℕ)
 answer_front bytes = do
   out ← tick_front bytes
@@ -156,6 +162,7 @@ answer_front bytes = do
   verdict ← verdict_front key.1
   Some (Answer out.0 pipe.0 nth.0 key.0 verdict.0, verdict.1)
 
+-- the fields of the line of a version that names a pool, and its end
 unfoldable pub give_front : List ℕ → Option (Line × List ℕ)
 give_front bytes = do
   out ← tick_front bytes
@@ -164,6 +171,7 @@ give_front bytes = do
   pool ← field_front 18446744073709551615 10 version.1
   Some (Given out.0 vip.0 version.0 pool.0, pool.1)
 
+-- the fields of a switch's line, and its end
 unfoldable pub switch_front : List ℕ → Option (Line × List ℕ)
 switch_front bytes = do
   out ← tick_front bytes
@@ -171,6 +179,7 @@ switch_front bytes = do
   pool ← field_front 18446744073709551615 10 vip.1
   Some (Switched out.0 vip.0 pool.0, pool.1)
 
+-- the fields of a sweep's line, and its end
 unfoldable pub sweep_front : List ℕ → Option (Line × List ℕ)
 sweep_front bytes = do
   number ← tick_front bytes
@@ -179,6 +188,7 @@ sweep_front bytes = do
   at_ms ← field_front 18446744073709551615 10 to.1
   Some (Swept number.0 from.0 to.0 at_ms.0, at_ms.1)
 
+-- the fields of the line of a connection that is over, and its end
 unfoldable pub retire_front : List ℕ → Option (Line × List ℕ)
 retire_front bytes = do
   out ← tick_front bytes

@@ -17,6 +17,10 @@ pub record IsLog (skips : List (ℕ × Skip)) (lines : List Line) : Type 0 where
 abbrev pub line_count : List (ℕ × Skip) → List Line → ℕ
 line_count skips lines = 1 + (length skips + length lines)
 
+-- how many lines a log may have at most
+abbrev pub most_lines : ℕ
+most_lines = 33554432
+
 -- a line of the grammar, with its line feed, is at the front of these bytes
 abbrev pub LineNext : List ℕ → Type 0
 LineNext bytes = (line : Line) × (rest : List ℕ) × (IsLine line × (bytes ≡ line_text line ++ rest))
@@ -35,8 +39,8 @@ pub record BadAfter (number : ℕ) (bytes : List ℕ) (skips : List (ℕ × Skip
   pub front : bytes ≡ log_text skips lines ++ rest
   pub more : rest ≢ []
   pub next : number ≡ 1 + line_count skips lines
-  pub within : line_count skips lines ≤ 33554432
-  pub outside : ¬ (GoesOn lines rest) ⊎ (line_count skips lines ≡ 33554432)
+  pub within : line_count skips lines ≤ most_lines
+  pub outside : ¬ (GoesOn lines rest) ⊎ (line_count skips lines ≡ most_lines)
 
 -- The first line outside the grammar or past the limit has this number: the head isn't there, or the next line behind a front that is a
 -- text of the grammar is it.
@@ -61,7 +65,7 @@ ReadsBack skips lines (Err Memory) those these = Unit {0}
 
 -- what any source allows: numbers in their ranges, and no more lines than the limit; or the number of a line up to the one after it
 abbrev pub IsRead : {L : Type 0} → (L → List (ℕ × Skip)) → (L → List Line) → Result L LogRefusal → Type 0
-IsRead skips lines (Ok log) = IsLog (skips log) (lines log) × (line_count (skips log) (lines log) ≤ 33554432)
-IsRead skips lines (Err (BadLine number)) = (1 ≤ number) × (number ≤ 33554433)
+IsRead skips lines (Ok log) = IsLog (skips log) (lines log) × (line_count (skips log) (lines log) ≤ most_lines)
+IsRead skips lines (Err (BadLine number)) = (1 ≤ number) × (number ≤ most_lines + 1)
 IsRead skips lines (Err ReadFault) = Unit {0}
 IsRead skips lines (Err Memory) = Unit {0}

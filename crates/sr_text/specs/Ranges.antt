@@ -9,6 +9,7 @@ use Rattle.sr_law.specs.declared.line.Line.TheVariants.{Packet, Answer, Given, R
 use Rattle.sr_law.specs.declared.verdict.Verdict.{Verdict}
 use Rattle.sr_law.specs.declared.verdict.Verdict.TheVariants.{To, Held, Down, Full, NoPlace}
 
+-- a place's numbers: way and cell of 8 bits, bucket and row of 32
 abbrev pub IsPlace : Place → Type 0
 IsPlace (Slot way bucket cell) = (way < 2 ^ 8) × (bucket < 2 ^ 32) × (cell < 2 ^ 8)
 IsPlace (Row row) = row < 2 ^ 32
@@ -17,6 +18,7 @@ IsPlace (Row row) = row < 2 ^ 32
 abbrev pub IsChoice : ℕ → ℕ → ℕ → Type 0
 IsChoice server version pool = (server < 2 ^ 32) × (version < 2 ^ 6) × (pool < 2 ^ 64)
 
+-- a verdict's numbers
 abbrev pub IsVerdict : Verdict → Type 0
 IsVerdict (To server version pool) = IsChoice server version pool
 IsVerdict (Held cause) = Unit {0}
@@ -24,6 +26,7 @@ IsVerdict (Down server version pool) = IsChoice server version pool
 IsVerdict Full = Unit {0}
 IsVerdict NoPlace = Unit {0}
 
+-- a line's numbers
 unfoldable pub IsLine : Line → Type 0
 IsLine (Packet number entered out pipe key kind verdict) =
     (number < 2 ^ 32) × (entered < 2 ^ 64) × (out < 2 ^ 64) × (pipe < 2 ^ 8) × IsKey key × IsVerdict verdict

@@ -2,7 +2,7 @@
 ghost use Rattle.std.specs.Prelude.{◌≡◌, option_map};
 ghost use Rattle.sr_text.specs.Fronts.{address_front, choice_front, down_front, key_front, kind_front, place_front, plain_front, row_front, slot_front, to_front, verdict_front};
 
-use crate::numbers::{field, large, middle, port, small, version};
+use crate::numbers::{field_front, u8_front, u16_front, u32_front, u64_front, version_front};
 use crate::word::after_word;
 use sr_base::{Key, Kind, Place, Version};
 use sr_law::{HeldBy, Verdict};
@@ -12,10 +12,10 @@ use sr_law::{HeldBy, Verdict};
 fn address_front(bytes: &[u8]) -> Option<(u32, &[u8])>
     ensures { option_map (λ x. (x.0, x.1.now)) result ≡ address_front bytes.now }
 {
-    let (a, rest) = small(b'.', bytes)?;
-    let (b, rest) = small(b'.', rest)?;
-    let (c, rest) = small(b'.', rest)?;
-    let (d, rest) = small(b':', rest)?;
+    let (a, rest) = u8_front(b'.', bytes)?;
+    let (b, rest) = u8_front(b'.', rest)?;
+    let (c, rest) = u8_front(b'.', rest)?;
+    let (d, rest) = u8_front(b':', rest)?;
     Some((
         ((a as u32 * 256 + b as u32) * 256 + c as u32) * 256 + d as u32,
         rest,
@@ -27,9 +27,9 @@ fn address_front(bytes: &[u8]) -> Option<(u32, &[u8])>
 pub(crate) fn key_front(ending: u8, bytes: &[u8]) -> Option<(Key, &[u8])>
     ensures { option_map (λ x. (x.0, x.1.now)) result ≡ key_front ending bytes.now }
 {
-    let (vip, rest) = field(15, b'/', bytes)?;
+    let (vip, rest) = field_front(15, b'/', bytes)?;
     let (ip, rest) = address_front(rest)?;
-    let (port, rest) = port(ending, rest)?;
+    let (port, rest) = u16_front(ending, rest)?;
     let key = Key::new(vip as u8, ip, port)?;
     Some((key, rest))
 }
@@ -66,9 +66,9 @@ pub(crate) fn place_front(bytes: &[u8]) -> Option<(Place, &[u8])>
 fn slot_front(bytes: &[u8]) -> Option<(Place, &[u8])>
     ensures { option_map (λ x. (x.0, x.1.now)) result ≡ slot_front bytes.now }
 {
-    let (way, rest) = small(b'b', bytes)?;
-    let (bucket, rest) = middle(b'c', rest)?;
-    let (cell, rest) = small(b'\n', rest)?;
+    let (way, rest) = u8_front(b'b', bytes)?;
+    let (bucket, rest) = u32_front(b'c', rest)?;
+    let (cell, rest) = u8_front(b'\n', rest)?;
     Some((Place::Slot { way, bucket, cell }, rest))
 }
 
@@ -77,7 +77,7 @@ fn slot_front(bytes: &[u8]) -> Option<(Place, &[u8])>
 fn row_front(bytes: &[u8]) -> Option<(Place, &[u8])>
     ensures { option_map (λ x. (x.0, x.1.now)) result ≡ row_front bytes.now }
 {
-    let (row, rest) = middle(b'\n', bytes)?;
+    let (row, rest) = u32_front(b'\n', bytes)?;
     Some((Place::Row { row }, rest))
 }
 
@@ -136,11 +136,11 @@ fn down_front(bytes: &[u8]) -> Option<(Verdict, &[u8])>
 fn choice_front(bytes: &[u8]) -> Option<(u32, Version, u64, &[u8])>
     ensures { option_map (λ x. (x.0, x.1, x.2, x.3.now)) result ≡ choice_front bytes.now }
 {
-    let (server, rest) = middle(b' ', bytes)?;
-    let Some((version, rest)) = version(b' ', rest) else {
+    let (server, rest) = u32_front(b' ', bytes)?;
+    let Some((version, rest)) = version_front(b' ', rest) else {
         return None;
     };
-    let (pool, rest) = large(b'\n', rest)?;
+    let (pool, rest) = u64_front(b'\n', rest)?;
     Some((server, version, pool, rest))
 }
 

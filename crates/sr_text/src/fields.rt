@@ -12,13 +12,13 @@ fn put_address(ip: u32, text: &mut LineText)
     ensures text { text.new ≡ address_text ip text.old }
     ensures length { length text.new ≤ 23 + length text.old }
 {
-    text.small((ip % 256) as u16);
+    text.put_u16((ip % 256) as u16);
     text.byte(b'.');
-    text.small((ip / 256 % 256) as u16);
+    text.put_u16((ip / 256 % 256) as u16);
     text.byte(b'.');
-    text.small((ip / 65_536 % 256) as u16);
+    text.put_u16((ip / 65_536 % 256) as u16);
     text.byte(b'.');
-    text.small((ip / 16_777_216) as u16);
+    text.put_u16((ip / 16_777_216) as u16);
 }
 
 /// Puts a key: virtual address, client address, port.
@@ -28,11 +28,11 @@ pub fn put_key(key: &Key, text: &mut LineText)
     ensures text { text.new ≡ key_text key.now text.old }
     ensures length { length text.new ≤ 35 + length text.old }
 {
-    text.small(key.port);
+    text.put_u16(key.port);
     text.byte(b':');
     put_address(key.ip, text);
     text.byte(b'/');
-    text.small(key.vip as u16);
+    text.put_u16(key.vip as u16);
 }
 
 /// Puts what a packet is to its connection.
@@ -56,15 +56,15 @@ pub(crate) fn put_place(place: &Place, text: &mut LineText)
 {
     match *place {
         Place::Slot { way, bucket, cell } => {
-            text.small(cell as u16);
+            text.put_u16(cell as u16);
             text.byte(b'c');
-            text.middle(bucket);
+            text.put_u32(bucket);
             text.byte(b'b');
-            text.small(way as u16);
+            text.put_u16(way as u16);
             text.byte(b'w');
         }
         Place::Row { row } => {
-            text.middle(row);
+            text.put_u32(row);
             text.byte(b'f');
         }
     }
@@ -76,11 +76,11 @@ fn put_choice(server: u32, version: u8, pool: u64, text: &mut LineText)
     ensures text { text.new ≡ choice_text server version pool text.old }
     ensures length { length text.new ≤ 37 + length text.old }
 {
-    text.number(pool);
+    text.put_u64(pool);
     text.byte(b' ');
-    text.small(version as u16);
+    text.put_u16(version as u16);
     text.byte(b' ');
-    text.middle(server);
+    text.put_u32(server);
 }
 
 /// Puts what became of a packet.

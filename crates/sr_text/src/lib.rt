@@ -5,6 +5,18 @@
 //! Reading: the source's bytes come through a window of 256 KiB, and each line is read where it lies, field by field, its line feed last. The
 //! readers of fields are equal to functions on lists (`specs/Fronts.antt`), of which two laws are proved for each field: what is printed is
 //! read, and what is read is what is printed. The contract of `read_lines` speaks of the printed text alone (`specs/Log.antt`).
+//!
+//! | part | what it is |
+//! |---|---|
+//! | `log`, `log_refusal` | a log in lists, and why one can't be read |
+//! | `printing` | the calls that print |
+//! | `line_text` | the buffer in which a line is put together, from its end to its front |
+//! | `fields`, `put` | puts a key, a place, a verdict; puts a whole line |
+//! | `reading` | reads a log to its end, or to its first bad line |
+//! | `window`, `refill` | the bytes that were read and aren't used yet; reads more of them |
+//! | `adding`, `line_at` | adds the line at the front to a log; the line at the front, by the grammar |
+//! | `line_fronts`, `name`, `field_fronts`, `numbers`, `word` | what stands at the front of bytes: lines, their names, keys and verdicts, numbers, words |
+//! | `laws` | whatever the lines of a log are, the grammar has them |
 #![tactic(auto)]
 
 mod adding;

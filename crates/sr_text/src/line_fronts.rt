@@ -1,10 +1,11 @@
 //! Lines at the front of bytes, each with its line feed.
 ghost use Rattle.std.specs.Prelude.{◌≡◌, ◌++◌, List, option_map, IfSome, IfNone};
 ghost use Rattle.sr_text.specs.Fronts.{answer_front, entry_front, give_front, line_front, named_front, numbered_front, packet_front, retire_front, skip_front, sweep_front, switch_front, why_front};
+ghost use Rattle.sr_text.specs.declared.name.Name.TheVariants as name;
 
 use crate::field_fronts::{key_front, kind_front, place_front, verdict_front};
 use crate::name::{Name, name_front};
-use crate::numbers::{large, middle, small, version};
+use crate::numbers::{u8_front, u32_front, u64_front, version_front};
 use crate::word::after_word;
 use sr_base::{Key, Place};
 use sr_frame::Skip;
@@ -44,24 +45,9 @@ fn named_front(name: Name, bytes: &[u8]) -> Option<(Line, &[u8])>
             let (out, server, rest) = numbered_front(bytes)?;
             Some((Line::TakenDown { out, server }, rest))
         }
-        Name::Reserve => {
-            let Some((out, key, place, rest)) = entry_front(bytes) else {
-                return None;
-            };
-            Some((Line::Reserved { out, key, place }, rest))
-        }
-        Name::Place => {
-            let Some((out, key, place, rest)) = entry_front(bytes) else {
-                return None;
-            };
-            Some((Line::Placed { out, key, place }, rest))
-        }
-        Name::Clear => {
-            let Some((out, key, place, rest)) = entry_front(bytes) else {
-                return None;
-            };
-            Some((Line::Cleared { out, key, place }, rest))
-        }
+        Name::Reserve => reserved_front(bytes),
+        Name::Place => placed_front(bytes),
+        Name::Clear => cleared_front(bytes),
         Name::Sweep => sweep_front(bytes),
         Name::Retire => retire_front(bytes),
         Name::Refuse => {
@@ -76,10 +62,10 @@ fn named_front(name: Name, bytes: &[u8]) -> Option<(Line, &[u8])>
 fn packet_front(bytes: &[u8]) -> Option<(Line, &[u8])>
     ensures { option_map (λ x. (x.0, x.1.now)) result ≡ packet_front bytes.now }
 {
-    let (number, rest) = middle(b' ', bytes)?;
-    let (entered, rest) = large(b' ', rest)?;
-    let (out, rest) = large(b' ', rest)?;
-    let (pipe, rest) = small(b' ', rest)?;
+    let (number, rest) = u32_front(b' ', bytes)?;
+    let (entered, rest) = u64_front(b' ', rest)?;
+    let (out, rest) = u64_front(b' ', rest)?;
+    let (pipe, rest) = u8_front(b' ', rest)?;
     let Some((key, rest)) = key_front(b' ', rest) else {
         return None;
     };
@@ -104,9 +90,9 @@ fn packet_front(bytes: &[u8]) -> Option<(Line, &[u8])>
 fn answer_front(bytes: &[u8]) -> Option<(Line, &[u8])>
     ensures { option_map (λ x. (x.0, x.1.now)) result ≡ answer_front bytes.now }
 {
-    let (out, rest) = large(b' ', bytes)?;
-    let (pipe, rest) = small(b' ', rest)?;
-    let (nth, rest) = middle(b' ', rest)?;
+    let (out, rest) = u64_front(b' ', bytes)?;
+    let (pipe, rest) = u8_front(b' ', rest)?;
+    let (nth, rest) = u32_front(b' ', rest)?;
     let Some((key, rest)) = key_front(b' ', rest) else {
         return None;
     };
@@ -128,12 +114,12 @@ fn answer_front(bytes: &[u8]) -> Option<(Line, &[u8])>
 fn give_front(bytes: &[u8]) -> Option<(Line, &[u8])>
     ensures { option_map (λ x. (x.0, x.1.now)) result ≡ give_front bytes.now }
 {
-    let (out, rest) = large(b' ', bytes)?;
-    let (vip, rest) = small(b' ', rest)?;
-    let Some((version, rest)) = version(b' ', rest) else {
+    let (out, rest) = u64_front(b' ', bytes)?;
+    let (vip, rest) = u8_front(b' ', rest)?;
+    let Some((version, rest)) = version_front(b' ', rest) else {
         return None;
     };
-    let (pool, rest) = large(b'\n', rest)?;
+    let (pool, rest) = u64_front(b'\n', rest)?;
     let line = Line::Given {
         out,
         vip,
@@ -148,9 +134,9 @@ fn give_front(bytes: &[u8]) -> Option<(Line, &[u8])>
 fn switch_front(bytes: &[u8]) -> Option<(Line, &[u8])>
     ensures { option_map (λ x. (x.0, x.1.now)) result ≡ switch_front bytes.now }
 {
-    let (out, rest) = large(b' ', bytes)?;
-    let (vip, rest) = small(b' ', rest)?;
-    let (pool, rest) = large(b'\n', rest)?;
+    let (out, rest) = u64_front(b' ', bytes)?;
+    let (vip, rest) = u8_front(b' ', rest)?;
+    let (pool, rest) = u64_front(b'\n', rest)?;
     Some((Line::Switched { out, vip, pool }, rest))
 }
 
@@ -159,10 +145,10 @@ fn switch_front(bytes: &[u8]) -> Option<(Line, &[u8])>
 fn sweep_front(bytes: &[u8]) -> Option<(Line, &[u8])>
     ensures { option_map (λ x. (x.0, x.1.now)) result ≡ sweep_front bytes.now }
 {
-    let (number, rest) = large(b' ', bytes)?;
-    let (from, rest) = large(b' ', rest)?;
-    let (to, rest) = large(b' ', rest)?;
-    let (at_ms, rest) = large(b'\n', rest)?;
+    let (number, rest) = u64_front(b' ', bytes)?;
+    let (from, rest) = u64_front(b' ', rest)?;
+    let (to, rest) = u64_front(b' ', rest)?;
+    let (at_ms, rest) = u64_front(b'\n', rest)?;
     let line = Line::Swept {
         number,
         from,
@@ -177,7 +163,7 @@ fn sweep_front(bytes: &[u8]) -> Option<(Line, &[u8])>
 fn retire_front(bytes: &[u8]) -> Option<(Line, &[u8])>
     ensures { option_map (λ x. (x.0, x.1.now)) result ≡ retire_front bytes.now }
 {
-    let (out, rest) = large(b' ', bytes)?;
+    let (out, rest) = u64_front(b' ', bytes)?;
     let Some((key, rest)) = key_front(b'\n', rest) else {
         return None;
     };
@@ -189,8 +175,8 @@ fn retire_front(bytes: &[u8]) -> Option<(Line, &[u8])>
 fn phase_front(bytes: &[u8]) -> Option<(u64, u8, &[u8])>
     ensures { option_map (λ x. (x.0, x.1, x.2.now)) result ≡ numbered_front 255 bytes.now }
 {
-    let (out, rest) = large(b' ', bytes)?;
-    let (vip, rest) = small(b'\n', rest)?;
+    let (out, rest) = u64_front(b' ', bytes)?;
+    let (vip, rest) = u8_front(b'\n', rest)?;
     Some((out, vip, rest))
 }
 
@@ -199,8 +185,8 @@ fn phase_front(bytes: &[u8]) -> Option<(u64, u8, &[u8])>
 fn numbered_front(bytes: &[u8]) -> Option<(u64, u32, &[u8])>
     ensures { option_map (λ x. (x.0, x.1, x.2.now)) result ≡ numbered_front 4294967295 bytes.now }
 {
-    let (out, rest) = large(b' ', bytes)?;
-    let (number, rest) = middle(b'\n', rest)?;
+    let (out, rest) = u64_front(b' ', bytes)?;
+    let (number, rest) = u32_front(b'\n', rest)?;
     Some((out, number, rest))
 }
 
@@ -209,7 +195,7 @@ fn numbered_front(bytes: &[u8]) -> Option<(u64, u32, &[u8])>
 fn entry_front(bytes: &[u8]) -> Option<(u64, Key, Place, &[u8])>
     ensures { option_map (λ x. (x.0, x.1, x.2, x.3.now)) result ≡ entry_front bytes.now }
 {
-    let (out, rest) = large(b' ', bytes)?;
+    let (out, rest) = u64_front(b' ', bytes)?;
     let Some((key, rest)) = key_front(b' ', rest) else {
         return None;
     };
@@ -217,6 +203,36 @@ fn entry_front(bytes: &[u8]) -> Option<(u64, Key, Place, &[u8])>
         return None;
     };
     Some((out, key, place, rest))
+}
+
+// The fields of the line of a place that is reserved.
+fn reserved_front(bytes: &[u8]) -> Option<(Line, &[u8])>
+    ensures { option_map (λ x. (x.0, x.1.now)) result ≡ named_front name.Reserve bytes.now }
+{
+    let Some((out, key, place, rest)) = entry_front(bytes) else {
+        return None;
+    };
+    Some((Line::Reserved { out, key, place }, rest))
+}
+
+// The fields of the line of a place that is taken.
+fn placed_front(bytes: &[u8]) -> Option<(Line, &[u8])>
+    ensures { option_map (λ x. (x.0, x.1.now)) result ≡ named_front name.Place bytes.now }
+{
+    let Some((out, key, place, rest)) = entry_front(bytes) else {
+        return None;
+    };
+    Some((Line::Placed { out, key, place }, rest))
+}
+
+// The fields of the line of a place that is cleared.
+fn cleared_front(bytes: &[u8]) -> Option<(Line, &[u8])>
+    ensures { option_map (λ x. (x.0, x.1.now)) result ≡ named_front name.Clear bytes.now }
+{
+    let Some((out, key, place, rest)) = entry_front(bytes) else {
+        return None;
+    };
+    Some((Line::Cleared { out, key, place }, rest))
 }
 
 // Why a record was skipped.
@@ -246,7 +262,7 @@ pub(crate) fn skip_front(bytes: &[u8]) -> Option<((u32, Skip), &[u8])>
     ensures { option_map (λ x. (x.0, x.1.now)) result ≡ skip_front bytes.now }
 {
     let rest = after_word(b"skip ", bytes)?;
-    let (number, rest) = middle(b' ', rest)?;
+    let (number, rest) = u32_front(b' ', rest)?;
     let (why, rest) = why_front(rest)?;
     Some(((number, why), rest))
 }

@@ -5,12 +5,12 @@ use itoa::write_digits;
 use std::marker::Model;
 
 /// The greatest number of bytes of a line, its line feed included.
-const MOST: usize = 200;
+pub(crate) const LINE_BYTES: usize = 200;
 
 /// A line that is put together from its end to its front: each call puts something before what is there.
 #[derive(Drop)]
 pub struct LineText {
-    bytes: [u8; MOST],
+    bytes: [u8; LINE_BYTES],
     at: usize,
 }
 
@@ -28,8 +28,8 @@ impl LineText {
         ensures { result ≡ 10 ∷ [] }
     {
         LineText {
-            bytes: [b'\n'; MOST],
-            at: MOST - 1,
+            bytes: [b'\n'; LINE_BYTES],
+            at: LINE_BYTES - 1,
         }
     }
 
@@ -62,7 +62,7 @@ impl LineText {
     }
 
     /// Puts a number's digits before it: twenty at most.
-    pub fn number(&mut self, n: u64)
+    pub fn put_u64(&mut self, n: u64)
         requires { 20 + length self.old ≤ 200 }
         ensures text { self.new ≡ decimal n ++ self.old }
         ensures length { length self.new ≤ 20 + length self.old }
@@ -71,7 +71,7 @@ impl LineText {
     }
 
     /// Puts the digits of a number below 2^32 before it: ten at most.
-    pub fn middle(&mut self, n: u32)
+    pub fn put_u32(&mut self, n: u32)
         requires { 10 + length self.old ≤ 200 }
         ensures text { self.new ≡ decimal n ++ self.old }
         ensures length { length self.new ≤ 10 + length self.old }
@@ -80,7 +80,7 @@ impl LineText {
     }
 
     /// Puts the digits of a number below 2^16 before it: five at most.
-    pub fn small(&mut self, n: u16)
+    pub fn put_u16(&mut self, n: u16)
         requires { 5 + length self.old ≤ 200 }
         ensures text { self.new ≡ decimal n ++ self.old }
         ensures length { length self.new ≤ 5 + length self.old }

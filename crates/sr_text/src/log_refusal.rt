@@ -2,18 +2,22 @@ ghost use Rattle.std.specs.Prelude.{◌≡◌};
 ghost use Rattle.sr_text.specs.declared.log_refusal.LogRefusal.TheVariants.{Memory};
 
 use std::alloc::AllocError;
+use thiserror::Error;
 
 /// Why a log can't be read.
-#[derive(Clone, Copy, Debug, PartialEq, Eq)]
+#[derive(Clone, Copy, Debug, PartialEq, Eq, Error)]
 pub enum LogRefusal {
     /// A line isn't one of the grammar, or follows 33,554,432 lines.
+    #[error("line {number} is none of the grammar")]
     BadLine {
         /// The number of the first such line, from 1.
         number: u64,
     },
     /// The source failed.
+    #[error("the source failed")]
     ReadFault,
     /// No memory was found.
+    #[error("out of memory")]
     Memory,
 }
 

@@ -16,7 +16,7 @@ pub(crate) enum Refilled {
     Failed,
 }
 
-/// Reads behind the first `at` bytes of a buffer until `least` are there.
+/// Reads behind the first `start` bytes of a buffer until `least` are there.
 pub(crate) fn refill<S: Source>(
     source: &mut S,
     into: &mut [u8],

@@ -3,13 +3,11 @@ ghost use Rattle.sr_io.specs.Faults.{Rose};
 ghost use Rattle.sr_text.specs.Window.{Between, IsFull, IsRefill, Keeps, Refills};
 ghost use Rattle.sr_text.specs.declared.window.TopUp.TheVariants.{Ready, Failed};
 
+use crate::line_text::LINE_BYTES;
 use crate::refill::{Refilled, refill};
 use sr_io::Source;
 use std::alloc::{AllocError, Global};
 use std::marker::Model;
-
-/// The most bytes of a line, its line feed included.
-const LINE: usize = 200;
 
 /// How many bytes are read at once.
 const ROOM: usize = 262_144;
@@ -79,7 +77,7 @@ impl Window {
         ensures failed { result ≡ Failed → Rose (S.faults source.old) (S.faults source.new) }
     {
         let count = self.end - self.at;
-        if self.over || count >= LINE {
+        if self.over || count >= LINE_BYTES {
             return TopUp::Ready;
         }
         match read_on(source, &mut self.bytes, self.at, self.end) {
@@ -111,7 +109,7 @@ fn read_on<S: Source>(source: &mut S, bytes: &mut [u8], start: usize, end: usize
     ensures failed { result ≡ Refilled.Failed → Rose (S.faults source.old) (S.faults source.new) }
 {
     to_front(bytes, start, end);
-    refill(source, bytes, end - start, LINE)
+    refill(source, bytes, end - start, LINE_BYTES)
 }
 
 // Moves a part of a buffer to its front.

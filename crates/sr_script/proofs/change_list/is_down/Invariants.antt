@@ -1,6 +1,6 @@
 use Rattle.std.proofs.Common.{◌≡◌, drop}
 use Rattle.std.specs.List.{list_any}
-use Rattle.sr_script.specs.Walk.{takes_down}
+use Rattle.sr_script.specs.Spelled.{takes_down}
 use Rattle.sr_script.proofs.change_list.is_down.Given as goal
 
 -- what is left has the change where all have it

@@ -1,9 +1,9 @@
-use Rattle.std.proofs.Common.{◌≡◌, vec_len}
+use Rattle.std.proofs.Common.{◌≡◌, length}
 use Rattle.sr_script.proofs.Readings.{Parts}
 use Rattle.sr_script.proofs.vip_list.vips_from.Given as goal
 
 -- what is left gives what all give
 abbrev pub invariant-loop-value : goal.invariant-loop-value
 invariant-loop-value l =
-    (vec_len l.addresses ≡ l.value-index)
-    × Parts l.pool_max l.servers l.addresses.items l.pools.items l.value-index l.values
+    (length l.addresses ≡ l.value-index)
+    × Parts l.pool_max l.servers l.addresses l.pools.items l.value-index l.values

@@ -1,5 +1,5 @@
 use Rattle.std.proofs.Common.{◌≡◌, refl, arith}
-use Rattle.sr_text.specs.Log.{line_count}
+use Rattle.sr_text.specs.Log.{line_count, most_lines}
 use Rattle.sr_text.proofs.Growing.{none_left, some_left, ended_here, bad_here, past_here}
 use Rattle.sr_text.proofs.reading.read_body.Goals as goal
 
@@ -21,5 +21,5 @@ pub returns-else-is_empty-clause-bytes : goal.returns-else-is_empty-clause-bytes
 returns-else-is_empty-clause-bytes g c = λ xs r.
     let i = c.loop-number.invariant in
     let q = i.reached xs r in
-    let count : line_count c.loop-number.log.skips.items c.loop-number.log.lines.items ≡ 33554432 = let l = i.lines in omega arith in
+    let count : line_count c.loop-number.log.skips.items c.loop-number.log.lines.items ≡ most_lines = let l = i.lines in omega arith in
     past_here _ _ c.top_up.new.self _ xs i.numbers count (some_left c.unread.result.now c.top_up.new.self.unread c.is_empty.result c.unread.ensures c.is_empty.ensures c.if-is_empty.false) (record { rest = q.rest; text = q.text; pending = c.in-Ready.ensures.bytes q.rest q.pending })

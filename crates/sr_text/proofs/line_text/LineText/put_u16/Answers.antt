@@ -1,6 +1,6 @@
 use Rattle.std.proofs.Common.{arith}
 use Rattle.std.proofs.lemmas.Fmt.{length-decimal-le}
-use Rattle.sr_text.proofs.line_text.LineText.small.Goals as goal
+use Rattle.sr_text.proofs.line_text.LineText.put_u16.Goals as goal
 
 pub digits-requires-clause-digits : goal.digits-requires-clause-digits
 digits-requires-clause-digits c = length-decimal-le 5 c.args.n (omega arith) (omega arith) (omega arith)
