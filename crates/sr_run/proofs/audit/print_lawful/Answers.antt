@@ -9,7 +9,7 @@ pub returns-in-All-clause-bytes : goal.returns-in-All-clause-bytes
 unfolding lawful_text
 returns-in-All-clause-bytes g c =
     let text = lawful_text c.args.count in
-    let number : c.number.new.self ≡ decimal c.args.count ++ 10 ∷ [] = c.number.ensures.text ∙ ap (λ t. decimal c.args.count ++ t) c.new-text.ensures in
+    let number : c.put_u64.new.self ≡ decimal c.args.count ++ 10 ∷ [] = c.put_u64.ensures.text ∙ ap (λ t. decimal c.args.count ++ t) c.new-text.ensures in
     let whole : c.bytes.result.now ≡ text = c.bytes.ensures ∙ c.word.ensures.text ∙ ap (λ t. codes "lawful " ++ t) number in
     let written = subst (λ t. Adds (g.K.Sink.taken c.args.sink.now) (g.K.Sink.taken c.write.new.self) t) whole c.in-All.ensures.bytes in
     subst (λ t. Puts c.flush.result (g.K.Sink.taken c.args.sink.now) (g.K.Sink.taken c.flush.new.self) t) (append-nil text)
