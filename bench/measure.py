@@ -18,6 +18,7 @@ ONE = ["one", "192.0.2.1:80", "10.1.0.1:80,10.1.0.2:80"]
 
 
 POOL = 'servers = ["10.1.0.1:80", "10.1.0.2:80"]\n[[vip]]\naddr = "192.0.2.1:80"\npool = [0, 1]\n'
+FLOOR = 16_000_000  # bytes; a child's peak is never below this script's own, of some 14 MB
 JUDGED = 2_000  # the plain auditor's time grows with the square of the list
 
 
@@ -40,7 +41,8 @@ def best(command, path, runs=5):
 
 def row(name, packets, seconds, peak):
     rate = packets / seconds / 1e6
-    return f"| {name} | {packets:,} | {seconds:.3f} | {rate:.2f} | {peak / 1e6:.1f} | {peak / packets:.0f} |"
+    each = f"{peak / packets:.0f}" if peak > FLOOR else ""
+    return f"| {name} | {packets:,} | {seconds:.3f} | {rate:.2f} | {peak / 1e6:.1f} | {each} |"
 
 
 def log_of(program, capture, path, last=b""):
@@ -105,7 +107,9 @@ def main():
         f"Best of five (`tcpdump`: one run), standard input a file, standard output dropped. A peak of 14 MB is the measuring script's own floor."
         f" {platform.system()} {platform.machine()}, {cores} processors.\n\n"
         "| command | packets, lines or keys | seconds | millions of them per second | peak memory, MB | bytes for each |\n"
-        "|---|---|---|---|---|---|\n" + "\n".join(rows) + "\n"
+        "|---|---|---|---|---|---|\n" + "\n".join(rows) + "\n\n"
+        "Of the log that `audit` reads here three lines in four are of skipped records. `tcpdump` is slower on this machine than it usually is, for a\n"
+        "reason that isn't known; at ten times its figure `one` would still be some thirty times as fast.\n"
     )
     with open(os.path.join(os.path.dirname(os.path.abspath(__file__)), "RESULTS.md"), "w") as out:
         out.write(text)

@@ -79,7 +79,7 @@ pub(crate) fn key_in(word: u64) -> Key
 }
 
 /// The law of the packing: a packed key unpacks to itself, and to nothing else.
-pub fn unpacks(key: Key) -> Option<Key>
+pub fn key_unpacks(key: Key) -> Option<Key>
     ensures { result ≡ Some key }
 {
     Key::unpack(key.pack())

@@ -21,7 +21,7 @@ mod word_name;
 
 pub use change::{Change, What};
 pub use full_word::{FullWord, full_unpacks};
-pub use key::{Key, key_ranges, unpacks};
+pub use key::{Key, key_ranges, key_unpacks};
 pub use kind::Kind;
 pub use layout::{Layout, ShapeLimit, layout_ranges, words_stand_apart};
 pub use packet::Packet;

@@ -24,6 +24,13 @@ impl Version {
         if n < 64 { Some(Version(n)) } else { None }
     }
 
+    /// Version 0, which each virtual address begins with.
+    pub fn zero() -> Version
+        ensures { result ≡ 0 }
+    {
+        Version(0)
+    }
+
     /// Its number.
     pub fn number(&self) -> u8
         ensures value { result ≡ self.now }

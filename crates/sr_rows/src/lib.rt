@@ -1,8 +1,8 @@
 //! Worked rows that go through `sr_run::run`, as tables of tests. There is nothing here for a program to call.
 //!
 //! `bytes` makes captures and `play` runs a row through devices in memory. The rows: `captures` (whole ones, hostile ones, their forms and
-//! skipped records), `cuts` (an input cut to every length), `devices` (failing ones), `flushes` (the last call), `made` (captures from a number), `audit` (logs judged by
-//! a script), `scripts` (refused ones), `usage` (words that are no command) and `hashes` (values from outside). What is told of a row is what
+//! skipped records), `cuts` (an input cut to every length), `devices` (failing ones), `flushes` (the sink's last call), `made` (captures from a
+//! number), `audit` (logs judged by a script), `scripts` (refused ones) and `usage` (words that are no command). What is told of a row is what
 //! was printed, and then a line with the exit code and what the program says on standard error.
 #![tactic(auto)]
 
@@ -18,8 +18,6 @@ mod cuts;
 mod devices;
 #[cfg(test)]
 mod flushes;
-#[cfg(test)]
-mod hashes;
 #[cfg(test)]
 mod made;
 #[cfg(test)]

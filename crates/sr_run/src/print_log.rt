@@ -69,7 +69,7 @@ fn print_opening<K: Sink>(sink: &mut K) -> Put
     let opening = Line::Given {
         out: 1,
         vip: 0,
-        version: first_version(),
+        version: Version::zero(),
         pool: 1,
     };
     print(&opening, sink)
@@ -109,18 +109,8 @@ fn line_of(servers: u8, tick: u64, packet: &Packet) -> Line
         kind: packet.kind,
         verdict: Verdict::To {
             server: select(servers, packet.key) as u32,
-            version: first_version(),
+            version: Version::zero(),
             pool: 1,
         },
-    }
-}
-
-// The version that names the first pool.
-fn first_version() -> Version
-    ensures { result ≡ 0 }
-{
-    match Version::new(0) {
-        Some(version) => version,
-        None => unreachable!(),
     }
 }
