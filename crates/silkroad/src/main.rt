@@ -33,29 +33,26 @@ fn without_words(error: &io::Error) -> Status {
 
 fn main(rt: HostRuntime) -> ExitCode {
     let alloc = rt.alloc();
-    let status = match read_words(&rt) {
-        Err(error) => without_words(&error),
-        Ok(words) => {
-            let reader = BufReader::with_capacity(alloc, BLOCK, rt.stdin());
-            let writer = BufWriter::with_capacity(alloc, BLOCK, rt.stdout());
-            match (reader, writer) {
-                (Ok(reader), Ok(writer)) => {
-                    let mut source = ReadSource::new(reader);
-                    let mut shelf = FileShelf::new(&rt);
-                    let mut sink = WriteSink::new(writer);
-                    run(
-                        &rt,
-                        alloc,
-                        &words,
-                        &mut source,
-                        &mut shelf,
-                        &mut sink,
-                        &OpenGate,
-                    )
-                }
-                _ => Status::Memory,
-            }
+    let words = read_words(&rt);
+    let reader = BufReader::with_capacity(alloc, BLOCK, rt.stdin());
+    let writer = BufWriter::with_capacity(alloc, BLOCK, rt.stdout());
+    let status = match (words, reader, writer) {
+        (Ok(words), Ok(reader), Ok(writer)) => {
+            let mut source = ReadSource::new(reader);
+            let mut shelf = FileShelf::new(&rt);
+            let mut sink = WriteSink::new(writer);
+            run(
+                &rt,
+                alloc,
+                &words,
+                &mut source,
+                &mut shelf,
+                &mut sink,
+                &OpenGate,
+            )
         }
+        (Err(error), _, _) => without_words(&error),
+        _ => Status::Memory,
     };
     let mut errors = WriteSink::new(rt.stderr());
     let _ = status.text(&mut errors);

@@ -5,35 +5,49 @@ ghost use Rattle.sr_base.specs.WordName.{filter_words, HasPlace, HasVersion, Has
 
 use crate::{Place, Shape, WordName};
 use std::marker::Model;
+use thiserror::Error;
 
 /// The first number of a layout that is outside its range, in the order of the numbers in a script.
-#[derive(Clone, Copy, Debug, PartialEq, Eq)]
+#[derive(Clone, Copy, Debug, PartialEq, Eq, Error)]
 pub enum ShapeLimit {
     /// Not 1 to 16 pipes.
+    #[error("not 1 to 16 pipes")]
     Pipes,
     /// Not a power of two of buckets, 1 to 65,536.
+    #[error("not a power of two of buckets, 1 to 65,536")]
     Buckets,
     /// More than 16 digest bits.
+    #[error("more than 16 digest bits")]
     DigestBits,
     /// Not 2 to 64 versions.
+    #[error("not 2 to 64 versions")]
     Versions,
     /// A greatest pool of no server.
+    #[error("a greatest pool of no server")]
     PoolMax,
     /// Not a multiple of 4 of full-key rows, 4 to 65,536.
+    #[error("not a multiple of 4 of full-key rows, 4 to 65,536")]
     FullRows,
     /// Not a power of two of filter bits, 1 to 1,048,576.
+    #[error("not a power of two of filter bits, 1 to 1,048,576")]
     FilterBits,
     /// Not 1 to 65,536 ring cells.
+    #[error("not 1 to 65,536 ring cells")]
     Ring,
     /// Not a window of 1 to 60,000 milliseconds.
+    #[error("not a window of 1 to 60,000 milliseconds")]
     Window,
     /// Not 1 to 86,400,000 milliseconds between sweeps.
+    #[error("not 1 to 86,400,000 milliseconds between sweeps")]
     Idle,
     /// No life.
+    #[error("no life")]
     Lives,
     /// Not 1 to 16 virtual addresses.
+    #[error("not 1 to 16 virtual addresses")]
     Vips,
     /// Not 1 to 65,536 servers.
+    #[error("not 1 to 65,536 servers")]
     Servers,
 }
 

@@ -1,6 +1,7 @@
 -- What an auditor names, and lawful lists: none is named exactly where the list is lawful.
 use Rattle.std.proofs.Common.{◌≡◌, ℕ, zero, suc, ◌+◌, ◌<◌, ◌≤◌, ◌↔◌, Bool, true, false, cond, refl, sym, ap, subst, ◌∙◌, List, [], length, get_or, take, reverse, Option, Some, None, inl, inr, arith}
 use Rattle.std.specs.List.{slice_get}
+use Rattle.std.specs.Option.{option_or}
 use Rattle.std.proofs.Math.Numerals.{add-one}
 use Rattle.std.proofs.Math.Seq.{take-length}
 use Rattle.std.proofs.lemmas.Bool.{cases_lt}
@@ -14,15 +15,15 @@ use Rattle.sr_law.specs.declared.check_refusal.CheckRefusal.TheVariants.{Breach}
 use Rattle.sr_law.specs.declared.line.Line.{Line}
 use Rattle.sr_law.specs.declared.line.Line.TheVariants.{Recorded}
 use Rattle.sr_law.specs.Final.{meets_final}
-use Rattle.sr_law.specs.Lawful.{broken, NoLineBreaks, IsLawful, breach_at, breach_first, first_broken, breach_of}
+use Rattle.sr_law.specs.Lawful.{broken, NoLineBreaks, IsLawful, breach_at, first_broken, breach_of}
 use Rattle.sr_law.specs.Retire.{EndingPacket, endings_of}
 use Rattle.sr_law.specs.Setup.{SetupView}
 
-pub first_parts : (a b : Option CheckRefusal) → breach_first a b ≡ None → (a ≡ None) × (b ≡ None)
+pub first_parts : (a b : Option CheckRefusal) → option_or a b ≡ None → (a ≡ None) × (b ≡ None)
 first_parts None b e = (refl, e)
 first_parts (Some breach) b e = absurd (none-some breach (sym e))
 
-pub first_none : (a b : Option CheckRefusal) → a ≡ None → b ≡ None → breach_first a b ≡ None
+pub first_none : (a b : Option CheckRefusal) → a ≡ None → b ≡ None → option_or a b ≡ None
 first_none None b p q = q
 first_none (Some breach) b p q = absurd (none-some breach (sym p))
 
@@ -35,13 +36,13 @@ none_at n None e = refl
 none_at n (Some clause) e = absurd (none-some clause (sym e))
 
 -- one line more is named by its own position, where none before it is
-pub first_more : (setup : SetupView) (endings : List EndingPacket) (lines : List Line) (i : ℕ) (d : Line) → i < length lines → first_broken setup endings (reverse (take (i + 1) lines)) ≡ breach_first (first_broken setup endings (reverse (take i lines))) (breach_at (i + 1) (broken setup endings (reverse (take i lines)) (get_or lines i d)))
+pub first_more : (setup : SetupView) (endings : List EndingPacket) (lines : List Line) (i : ℕ) (d : Line) → i < length lines → first_broken setup endings (reverse (take (i + 1) lines)) ≡ option_or (first_broken setup endings (reverse (take i lines))) (breach_at (i + 1) (broken setup endings (reverse (take i lines)) (get_or lines i d)))
 unfolding first_broken
 first_more setup endings lines i d h =
     let before = reverse (take i lines) in
     let size : length before ≡ i = length-reverse (take i lines) ∙ length-take-le i lines (omega arith) in
     ap (first_broken setup endings) (newest_more lines i d h)
-    ∙ ap (λ n. breach_first (first_broken setup endings before) (breach_at (n + 1) (broken setup endings before (get_or lines i d)))) size
+    ∙ ap (λ n. option_or (first_broken setup endings before) (breach_at (n + 1) (broken setup endings before (get_or lines i d)))) size
 
 -- of no lines none is named
 pub first_zero : (setup : SetupView) (endings : List EndingPacket) → first_broken setup endings [] ≡ None
@@ -53,7 +54,7 @@ module _ (setup : SetupView) (endings : List EndingPacket) (lines : List Line) w
   named : ℕ → Option CheckRefusal
   named n = first_broken setup endings (reverse (take n lines))
 
-  more : (n : ℕ) (d : Line) → n < length lines → named (suc n) ≡ breach_first (named n) (breach_at (n + 1) (broken setup endings (reverse (take n lines)) (get_or lines n d)))
+  more : (n : ℕ) (d : Line) → n < length lines → named (suc n) ≡ option_or (named n) (breach_at (n + 1) (broken setup endings (reverse (take n lines)) (get_or lines n d)))
   unfolding named
   more n d h = ap (λ k. first_broken setup endings (reverse (take k lines))) (sym (add-one n)) ∙ first_more setup endings lines n d h
 

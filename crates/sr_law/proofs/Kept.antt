@@ -1,22 +1,18 @@
 -- In a lawful list an open connection keeps its server.
-use Rattle.std.proofs.Common.{◌≡◌, ℕ, zero, suc, ◌<◌, ◌≤◌, true, List, length, get_or, take, reverse, Some, refl, sym, ap, ◌∙◌, arith}
-use Rattle.std.specs.List.{slice_get}
+use Rattle.std.proofs.Common.{◌≡◌, ℕ, zero, suc, ◌<◌, ◌≤◌, true, List, length, get_or, take, reverse, refl, sym, ap, ◌∙◌, arith}
 use Rattle.std.proofs.Math.Numerals.{add-one}
 use Rattle.std.proofs.lemmas.Bool.{and_from}
 use Rattle.std.proofs.lemmas.Option.{slice_get_within, slice_get-get_or}
-use Rattle.sr_law.specs.declared.choice.Choice.{Choice}
 use Rattle.sr_law.specs.declared.line.Line.{Line}
 use Rattle.sr_law.specs.declared.line.Line.TheVariants.{Recorded}
-use Rattle.sr_law.specs.declared.opening.Opening.{Opening}
 use Rattle.sr_law.specs.Lawful.{NoLineBreaks}
-use Rattle.sr_law.specs.Opening.{opening}
+use Rattle.sr_law.specs.Laws.{ConnectionsKeepServers}
 use Rattle.sr_law.specs.Retire.{EndingPacket}
-use Rattle.sr_law.specs.Server.{meets_server, all_meet_server}
+use Rattle.sr_law.specs.Server.{meets_server}
 use Rattle.sr_law.specs.Setup.{SetupView}
-use Rattle.sr_law.specs.Ticks.{choice_of, start_of}
 use Rattle.sr_law.proofs.Clauses.{Meets, meets}
 use Rattle.sr_law.proofs.Newest.{newest_more}
-use Rattle.sr_law.proofs.OneServer.{one_server}
+use Rattle.sr_law.proofs.OneServer.{all_meet_server, one_server}
 
 module _ (setup : SetupView) (endings : List EndingPacket) (lines : List Line) (met : NoLineBreaks setup endings lines) where
   -- each line meets the clauses
@@ -34,7 +30,7 @@ module _ (setup : SetupView) (endings : List EndingPacket) (lines : List Line) (
       ∙ and_from (meets_server setup.pools before (get_or lines n d)) (all_meet_server setup.pools before) (met_at n d (omega arith)).server (all_right n (omega arith))
 
   -- and a packet of an open connection that began after the opening goes to the opening's server
-  pub kept : (i : ℕ) (line : Line) (choice : Choice) (o : Opening) → slice_get lines i ≡ Some line → choice_of line ≡ Some choice → opening (reverse (take i lines)) choice.key ≡ Some o → o.out < start_of line → choice.server ≡ o.server
+  pub kept : ConnectionsKeepServers lines
   kept i line choice o at is found later =
       let m = meets setup endings (reverse (take i lines)) line (met i line at) in
       one_server setup.pools (reverse (take i lines)) line (all_right i (omega (arith, slice_get_within lines i line at))) m.server m.same choice o is found later

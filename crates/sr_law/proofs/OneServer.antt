@@ -1,6 +1,7 @@
 -- Same and Server together give one server: that of the opening.
-use Rattle.std.proofs.Common.{◌≡◌, ℕ, ◌<◌, true, cond, List, [], ◌∷◌, Option, Some, None, sym, ◌∙◌, ap, subst, inl, inr, arith}
+use Rattle.std.proofs.Common.{◌≡◌, ℕ, ◌<◌, Bool, true, ◌&&◌, cond, List, [], ◌∷◌, Option, Some, None, sym, ◌∙◌, ap, subst, inl, inr, arith}
 use Rattle.std.specs.Prelude.{nat_eq, nat_le}
+use Rattle.std.specs.Option.{option_or}
 use Rattle.std.proofs.lemmas.Bool.{and_parts, or_cases, eqb-true, leb-true, cases_Bool, false≢true}
 use Rattle.std.proofs.lemmas.Option.{none-some, same_Some}
 use Rattle.sr_base.specs.Key.{KeyView, same_key}
@@ -13,11 +14,16 @@ use Rattle.sr_law.specs.declared.choice.Choice.{Choice}
 use Rattle.sr_law.specs.declared.opening.Opening.{Opening}
 use Rattle.sr_law.specs.Pools.{VipPools, server_of}
 use Rattle.sr_law.specs.Ticks.{start_of, choice_of, chosen}
-use Rattle.sr_law.specs.Opening.{opened, opened_by, retires, opened_first, opening}
+use Rattle.sr_law.specs.Opening.{opened, opened_by, retires, opening}
 use Rattle.sr_law.specs.Same.{keeps_pool, keeps_choice, meets_same}
 use Rattle.sr_law.specs.Given.{has_pool, last_version}
-use Rattle.sr_law.specs.Server.{is_number, is_right_choice, meets_server, all_meet_server}
+use Rattle.sr_law.specs.Server.{is_number, is_right_choice, meets_server}
 use Rattle.sr_base.proofs.Sameness.{same_key-true}
+
+-- each of these lines names the right server by the lines before it
+abbrev pub all_meet_server : List VipPools → List Line → Bool
+all_meet_server pools [] = true
+all_meet_server pools (line ∷ before) = meets_server pools before line && all_meet_server pools before
 
 -- there is a number, so it is this one
 pub is_number-true : (o : Option ℕ) (n : ℕ) → is_number o n ≡ true → o ≡ Some n
@@ -52,7 +58,7 @@ line_right pools before (Packet number entered out pipe key Opener verdict) c o 
 line_right pools before (Answer out pipe nth key verdict) c o right e = keyed_right pools before out key c verdict o right e
 line_right pools before line c o right e = absurd (none-some o e)
 
-first_right : (pools : List VipPools) (before : List Line) (line : Line) (c : KeyView) (o : Opening) (first : Option Opening) → (first ≡ Some o → server_of pools o.pool c ≡ Some o.server) → meets_server pools before line ≡ true → opened_first first (opened_by line c) ≡ Some o → server_of pools o.pool c ≡ Some o.server
+first_right : (pools : List VipPools) (before : List Line) (line : Line) (c : KeyView) (o : Opening) (first : Option Opening) → (first ≡ Some o → server_of pools o.pool c ≡ Some o.server) → meets_server pools before line ≡ true → option_or first (opened_by line c) ≡ Some o → server_of pools o.pool c ≡ Some o.server
 first_right pools before line c o (Some x) older right found = older found
 first_right pools before line c o None older right found = line_right pools before line c o right found
 

@@ -3,6 +3,7 @@
 use Rattle.std.proofs.Common.{◌≡◌, ℕ, zero, suc, ◌<◌, ◌≤◌, ◌⊎◌, Bool, true, false, not, cond, ◌&&◌, List, [], ◌∷◌, length, get_or, take, reverse, Option, Some, None, refl, sym, ap, subst, ◌∙◌, inl, inr, arith}
 use Rattle.std.specs.List.{slice_get, list_any}
 use Rattle.std.specs.Prelude.{nat_eq, nat_le, nat_lt, is_some}
+use Rattle.std.specs.Option.{option_or}
 use Rattle.std.proofs.Math.Numerals.{add-one}
 use Rattle.std.proofs.lemmas.Bool.{and_parts, and_from, or_cases, or_parts, cases_Bool, cases_lt, eqb-true, eq-eqb, leb-true, leb-false, lt-ltb, not-true, false≢true}
 use Rattle.std.proofs.lemmas.Option.{none-some, same_Some, slice_get_within, get_or_from_slice_get}
@@ -14,7 +15,8 @@ use Rattle.sr_law.specs.declared.opening.Opening.{Opening}
 use Rattle.sr_law.specs.Given.{last_given, has_pool}
 use Rattle.sr_law.specs.Groups.{was_given_past, names_next_pool, keeps_groups, after_gives, last_of_update, goes_on, is_opening_give}
 use Rattle.sr_law.specs.Lawful.{NoLineBreaks}
-use Rattle.sr_law.specs.Newer.{pool_last, last_switched, is_from, is_up_to, is_new_pool, opens_new, meets_newer}
+use Rattle.sr_law.specs.Laws.{OpeningsFollowSwitches}
+use Rattle.sr_law.specs.Newer.{last_switched, is_from, is_up_to, is_new_pool, opens_new, meets_newer}
 use Rattle.sr_law.specs.Opening.{opening, is_open, opened_by}
 use Rattle.sr_law.specs.Order.{meets_order, refuses_next}
 use Rattle.sr_law.specs.Pools.{VipPools, pool_of}
@@ -87,7 +89,7 @@ switched_given pools (line ∷ before) out vip pool all (inr s) =
 own_switch : (out vip pool tick : ℕ) (before : List Line) → nat_lt out tick ≡ true → last_switched (Switched out vip pool ∷ before) vip tick ≡ Some pool
 own_switch out vip pool tick before e =
     let both : (nat_eq vip vip && nat_lt out tick) ≡ true = and_from (nat_eq vip vip) (nat_lt out tick) (eq-eqb vip vip refl) e in
-    ap (λ b. pool_last (cond b (Some pool) None) (last_switched before vip tick)) both
+    ap (λ b. option_or (cond b (Some pool) None) (last_switched before vip tick)) both
 
 -- after a line the last switch is to the same pool or a later one
 later_switch : (pools : List VipPools) (before : List Line) (line : Line) (vip pool tick q : ℕ) (g : Giving) → names_next_pool pools before line ≡ true → last_given before vip ≡ Some g → pool ≤ g.pool → last_switched before vip tick ≡ Some q → pool ≤ q → (r : ℕ) × (last_switched (line ∷ before) vip tick ≡ Some r) × (pool ≤ r)
@@ -99,8 +101,8 @@ later_switch pools before (Switched out to switched) vip pool tick q g next give
           let found = with_pool (last_given before vip) switched has in
           let same : g ≡ found.0 = same_Some g found.0 (sym given ∙ found.1) in
           let pool_of_g : g.pool ≡ switched = ap (λ x. x.pool) same ∙ found.2 in
-          (switched, ap (λ b. pool_last (cond b (Some switched) None) (last_switched before vip tick)) t, omega (arith, pool_of_g, le))
-      | inr f ↦ (q, ap (λ b. pool_last (cond b (Some switched) None) (last_switched before vip tick)) f ∙ is, from)
+          (switched, ap (λ b. option_or (cond b (Some switched) None) (last_switched before vip tick)) t, omega (arith, pool_of_g, le))
+      | inr f ↦ (q, ap (λ b. option_or (cond b (Some switched) None) (last_switched before vip tick)) f ∙ is, from)
     ]
 later_switch pools before line vip pool tick q g next given le is from = (q, is, from)
 
@@ -170,7 +172,7 @@ module _ (setup : SetupView) (endings : List EndingPacket) (lines : List Line) (
       ])
 
   -- a connection that is opened after a switch uses that pool or a later one
-  pub newer : (i j : ℕ) (line : Line) (key : KeyView) (o : Opening) (out pool : ℕ) → slice_get lines i ≡ Some line → key_of line ≡ Some key → opening (reverse (take i lines)) key ≡ None → opened_by line key ≡ Some o → j < i → slice_get lines j ≡ Some (Switched out key.vip pool) → out < start_of line → pool ≤ o.pool
+  pub newer : OpeningsFollowSwitches lines
   newer i j line key o out pool at is closed opens earlier switched early =
       let before = reverse (take i lines) in
       let within : i < length lines = slice_get_within lines i line at in

@@ -1,6 +1,6 @@
 -- Final: each packet has one final line, its own or the answer to it. This is a fact of the whole list, which is given here with its
 -- newest line first, as the lines before a line are.
-use Rattle.std.specs.Prelude.{ℕ, ◌+◌, Bool, true, false, ◌&&◌, ◌==◌, nat_lt, nat_le, List, [], ◌∷◌, ◌++◌, length, count_by}
+use Rattle.std.specs.Prelude.{ℕ, ◌+◌, Bool, true, false, ◌&&◌, ◌==◌, nat_lt, nat_le, List, [], ◌∷◌, ◌++◌, length, Option, Some, None, option_to_list, count_by}
 use Rattle.std.specs.List.{list_any, list_all}
 use Rattle.sr_base.specs.Key.{KeyView, same_key}
 use Rattle.sr_base.specs.declared.kind.Kind.{Kind}
@@ -13,14 +13,14 @@ use Rattle.sr_law.specs.Full.{held_count}
 use Rattle.sr_law.specs.Setup.{SetupView}
 
 -- the packet that a line tells of
-abbrev pub packet_by : Line → List Packet
-packet_by (PacketLine number entered out pipe key kind verdict) = record { number = number; key = key; kind = kind } ∷ []
-packet_by line = []
+abbrev pub packet_by : Line → Option Packet
+packet_by (PacketLine number entered out pipe key kind verdict) = Some (record { number = number; key = key; kind = kind })
+packet_by line = None
 
 -- the packets that the lines tell of
 abbrev pub packets_of : List Line → List Packet
 packets_of [] = []
-packets_of (line ∷ before) = packet_by line ++ packets_of before
+packets_of (line ∷ before) = option_to_list (packet_by line) ++ packets_of before
 
 -- two kinds are one
 abbrev pub same_kind : Kind → Kind → Bool
@@ -70,7 +70,7 @@ abbrev pub answer_is_held : List Line → Line → Bool
 answer_is_held all (Answer out pipe nth key verdict) = nat_le 1 nth && nat_le nth (held_count pipe all)
 answer_is_held all line = true
 
--- the first lines are there; the packets are those of the setup, each once; and answers and held openers pair
+-- the first lines are there; the packets are those of the setup, each as often as there; and answers and held openers pair
 unfoldable pub meets_final : SetupView → List Line → Bool
 meets_final setup all =
     nat_le (length setup.pools) (length all) && same_packets (packets_of all) setup.packets && all_held_answered all all && list_all (answer_is_held all) all

@@ -1,6 +1,7 @@
 -- Cause, in part: why an opener was held. These causes are this project's own, but for the filter (SilkRoad, SIGCOMM 2017: TransitTable).
 use Rattle.std.specs.Prelude.{ℕ, Bool, false, not, ◌&&◌, ◌||◌, ◌==◌, nat_lt, if◌then◌else◌, List, [], ◌∷◌, Option, Some, None}
 use Rattle.std.specs.List.{list_any, list_all}
+use Rattle.std.specs.Option.{option_or}
 use Rattle.sr_base.specs.Key.{KeyView, same_key}
 use Rattle.sr_base.specs.Place.{same_place}
 use Rattle.sr_base.specs.declared.shape.Shape.{Shape}
@@ -43,15 +44,10 @@ abbrev pub hold_tick : Line → ℕ → Option ℕ
 hold_tick (Hold out held) vip = if held == vip then Some out else None
 hold_tick line vip = None
 
--- the newer of two, or else the older
-abbrev pub tick_last : Option ℕ → Option ℕ → Option ℕ
-tick_last (Some tick) older = Some tick
-tick_last None older = older
-
 -- the tick of the last such line
 abbrev pub last_hold : List Line → ℕ → Option ℕ
 last_hold [] vip = None
-last_hold (line ∷ before) vip = tick_last (hold_tick line vip) (last_hold before vip)
+last_hold (line ∷ before) vip = option_or (hold_tick line vip) (last_hold before vip)
 
 -- the virtual address was switched, or its update was finished, between two ticks
 abbrev pub switches_between : ℕ → ℕ → ℕ → Line → Bool

@@ -1,5 +1,6 @@
 -- A lawful list of lines: no line breaks a clause by the lines before it, and each packet has its final line.
 use Rattle.std.specs.Prelude.{◌≡◌, ℕ, ◌+◌, Bool, if◌then◌else◌, List, [], ◌∷◌, length, reverse, Option, Some, None, slice_get, IsTrue}
+use Rattle.std.specs.Option.{option_or}
 use Rattle.sr_law.specs.declared.line.Line.{Line}
 use Rattle.sr_law.specs.declared.clause.Clause.{Clause}
 use Rattle.sr_law.specs.declared.clause.Clause.TheVariants as C
@@ -46,19 +47,14 @@ abbrev pub breach_at : ℕ → Option Clause → Option CheckRefusal
 breach_at number None = None
 breach_at number (Some clause) = Some (Breach number clause)
 
--- the first of two, or else the second
-abbrev pub breach_first : Option CheckRefusal → Option CheckRefusal → Option CheckRefusal
-breach_first (Some breach) next = Some breach
-breach_first None next = next
-
 -- the first of these lines that breaks a clause, and the first clause that it breaks; the newest line is given first
 unfoldable pub first_broken : SetupView → List EndingPacket → List Line → Option CheckRefusal
 first_broken setup endings [] = None
 first_broken setup endings (line ∷ before) =
-    breach_first (first_broken setup endings before) (breach_at (length before + 1) (broken setup endings before line))
+    option_or (first_broken setup endings before) (breach_at (length before + 1) (broken setup endings before line))
 
 -- what an auditor names: the first line of a printed list that breaks a clause, or else, one past the last, that a final line is missing
 unfoldable pub breach_of : SetupView → List Line → Option CheckRefusal
 breach_of setup lines =
-    breach_first (first_broken setup (endings_of (reverse lines)) (reverse lines))
+    option_or (first_broken setup (endings_of (reverse lines)) (reverse lines))
     (if meets_final setup (reverse lines) then None else Some (Breach (length lines + 1) C.Final))

@@ -6,6 +6,7 @@ pub mod Groups
 pub mod Held
 pub mod Keys
 pub mod Lawful
+pub mod Laws
 pub mod Newer
 pub mod Number
 pub mod Opening

@@ -1,5 +1,6 @@
 -- Newer: a connection that is opened after a switch uses that pool or a later one.
 use Rattle.std.specs.Prelude.{ℕ, Bool, true, ◌&&◌, ◌||◌, ◌==◌, nat_lt, nat_le, if◌then◌else◌, List, [], ◌∷◌, Option, Some, None}
+use Rattle.std.specs.Option.{option_or}
 use Rattle.sr_base.specs.Key.{KeyView}
 use Rattle.sr_law.specs.declared.line.Line.{Line}
 use Rattle.sr_law.specs.declared.line.Line.TheVariants.{Switched}
@@ -14,15 +15,10 @@ abbrev pub switched_by : Line → ℕ → ℕ → Option ℕ
 switched_by (Switched out to pool) vip tick = if (to == vip) && nat_lt out tick then Some pool else None
 switched_by line vip tick = None
 
--- the newer of two, or else the older
-abbrev pub pool_last : Option ℕ → Option ℕ → Option ℕ
-pool_last (Some pool) older = Some pool
-pool_last None older = older
-
 -- the pool that a virtual address was last switched to before this tick
 abbrev pub last_switched : List Line → ℕ → ℕ → Option ℕ
 last_switched [] vip tick = None
-last_switched (line ∷ before) vip tick = pool_last (switched_by line vip tick) (last_switched before vip tick)
+last_switched (line ∷ before) vip tick = option_or (switched_by line vip tick) (last_switched before vip tick)
 
 -- not before the pool of the switch, if there was one
 abbrev pub is_from : Option ℕ → ℕ → Bool

@@ -1,5 +1,6 @@
 -- The opening of a connection: the line that first sent it to a server, since it was last retired.
 use Rattle.std.specs.Prelude.{ℕ, Bool, false, if◌then◌else◌, List, [], ◌∷◌, Option, Some, None, is_some}
+use Rattle.std.specs.Option.{option_or}
 use Rattle.sr_base.specs.Key.{KeyView, same_key}
 use Rattle.sr_base.specs.declared.kind.Kind.TheVariants.{Opener}
 use Rattle.sr_law.specs.declared.line.Line.{Line}
@@ -24,15 +25,10 @@ abbrev pub retires : Line → KeyView → Bool
 retires (Retired out key) c = same_key key c
 retires line c = false
 
--- the first of two, or else the second
-abbrev pub opened_first : Option Opening → Option Opening → Option Opening
-opened_first (Some opening) later = Some opening
-opened_first None later = later
-
 -- the opening of a connection: the first line, since it was last retired, that sent an opener of it to a server
 abbrev pub opening : List Line → KeyView → Option Opening
 opening [] c = None
-opening (line ∷ before) c = if retires line c then None else opened_first (opening before c) (opened_by line c)
+opening (line ∷ before) c = if retires line c then None else option_or (opening before c) (opened_by line c)
 
 -- a connection is open where it has an opening
 abbrev pub is_open : List Line → KeyView → Bool

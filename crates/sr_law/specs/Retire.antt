@@ -1,6 +1,7 @@
 -- Retire: a connection is over only after it was quiet for so many sweeps, or for one where it sent an end.
-use Rattle.std.specs.Prelude.{ℕ, ◌+◌, ◌-◌, Bool, true, false, not, ◌&&◌, ◌||◌, ◌==◌, nat_lt, nat_le, if◌then◌else◌, List, [], ◌∷◌, ◌++◌, Option, Some, None}
+use Rattle.std.specs.Prelude.{ℕ, ◌+◌, ◌-◌, Bool, true, false, not, ◌&&◌, ◌||◌, ◌==◌, nat_lt, nat_le, if◌then◌else◌, List, [], ◌∷◌, ◌++◌, Option, Some, None, unwrap_or}
 use Rattle.std.specs.List.{list_any}
+use Rattle.std.specs.Option.{option_or}
 use Rattle.sr_base.specs.Key.{KeyView, same_key}
 use Rattle.sr_base.specs.declared.kind.Kind.{Kind}
 use Rattle.sr_base.specs.declared.kind.Kind.TheVariants.{Opener, Ending}
@@ -15,15 +16,10 @@ abbrev pub sweep_by : Line → Option Sweep
 sweep_by (Swept number from to at_ms) = Some (record { number = number; from = from; to = to; at_ms = at_ms })
 sweep_by line = None
 
--- the newer of two, or else the older
-abbrev pub sweep_last : Option Sweep → Option Sweep → Option Sweep
-sweep_last (Some sweep) older = Some sweep
-sweep_last None older = older
-
 -- the last sweep
 abbrev pub last_sweep : List Line → Option Sweep
 last_sweep [] = None
-last_sweep (line ∷ before) = sweep_last (sweep_by line) (last_sweep before)
+last_sweep (line ∷ before) = option_or (sweep_by line) (last_sweep before)
 
 -- the sweep, if it has this number
 abbrev pub of_number : ℕ → Option Sweep → Option Sweep
@@ -33,7 +29,7 @@ of_number number (Some sweep) = if sweep.number == number then Some sweep else N
 -- the sweep of this number
 abbrev pub numbered_sweep : List Line → ℕ → Option Sweep
 numbered_sweep [] number = None
-numbered_sweep (line ∷ before) number = sweep_last (of_number number (sweep_by line)) (numbered_sweep before number)
+numbered_sweep (line ∷ before) number = option_or (of_number number (sweep_by line)) (numbered_sweep before number)
 
 -- a sweep has the next number, and comes no sooner than the idle time after the last one, or after the start of the capture
 abbrev pub is_next_sweep : ℕ → ℕ → ℕ → Option Sweep → Bool
@@ -70,30 +66,20 @@ abbrev pub retired_by : Line → KeyView → Option ℕ
 retired_by (Retired out key) c = if same_key key c then Some out else None
 retired_by line c = None
 
--- the tick in it, or else this number
-abbrev pub tick_or : Option ℕ → ℕ → ℕ
-tick_or None n = n
-tick_or (Some tick) n = tick
-
 -- the tick at which a connection was last retired, or 0
 abbrev pub last_retired : List Line → KeyView → ℕ
 last_retired [] c = 0
-last_retired (line ∷ before) c = tick_or (retired_by line c) (last_retired before c)
+last_retired (line ∷ before) c = unwrap_or (retired_by line c) (last_retired before c)
 
 -- the tick at which a line places an entry of this connection
 abbrev pub placed_by : Line → KeyView → Option ℕ
 placed_by (Placed out key place) c = if same_key key c then Some out else None
 placed_by line c = None
 
--- the newer of two, or else the older
-abbrev pub placed_last : Option ℕ → Option ℕ → Option ℕ
-placed_last (Some tick) older = Some tick
-placed_last None older = older
-
 -- the tick at which an entry of a connection was last placed, in this life of it or in an earlier one
 abbrev pub last_placed : List Line → KeyView → Option ℕ
 last_placed [] c = None
-last_placed (line ∷ before) c = placed_last (placed_by line c) (last_placed before c)
+last_placed (line ∷ before) c = option_or (placed_by line c) (last_placed before c)
 
 -- there is a tick, and it is before this one
 abbrev pub is_before : Option ℕ → ℕ → Bool

@@ -1,5 +1,5 @@
 -- Server: the server is the one that the connection's hash picks from the pool, and the version names that pool.
-use Rattle.std.specs.Prelude.{ℕ, Bool, true, false, ◌&&◌, ◌==◌, List, [], ◌∷◌, Option, Some, None}
+use Rattle.std.specs.Prelude.{ℕ, Bool, true, false, ◌&&◌, ◌==◌, List, Option, Some, None}
 use Rattle.sr_law.specs.declared.line.Line.{Line}
 use Rattle.sr_law.specs.declared.choice.Choice.{Choice}
 use Rattle.sr_law.specs.Given.{last_version, has_pool}
@@ -20,8 +20,3 @@ is_right_choice pools before (Some choice) =
 -- a line that sends a packet, or would were the server not down, names the right server
 abbrev pub meets_server : List VipPools → List Line → Line → Bool
 meets_server pools before line = is_right_choice pools before (choice_of line)
-
--- each of these lines names the right server by the lines before it
-abbrev pub all_meet_server : List VipPools → List Line → Bool
-all_meet_server pools [] = true
-all_meet_server pools (line ∷ before) = meets_server pools before line && all_meet_server pools before

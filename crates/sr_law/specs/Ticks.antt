@@ -52,12 +52,6 @@ key_of (Cleared out key place) = Some key
 key_of (Retired out key) = Some key
 key_of line = None
 
--- what became of a packet: of one that its pipe was done with, or of a held one that the controller answered
-abbrev pub verdict_of : Line → Option Verdict
-verdict_of (Packet number entered out pipe key kind verdict) = Some verdict
-verdict_of (Answer out pipe nth key verdict) = Some verdict
-verdict_of line = None
-
 -- the server that a verdict names for a key, with the version and pool that it was picked by
 abbrev pub chosen : KeyView → Verdict → Option Choice
 chosen key (To server version pool) = Some (record { key = key; server = server; version = version; pool = pool })

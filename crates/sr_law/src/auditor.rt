@@ -1,6 +1,6 @@
 ghost use Rattle.std.specs.Prelude.{◌≡◌, ◌⊎◌, ◌+◌, ◌≤◌, None, Some, reverse, length, MatchResult};
 ghost use Rattle.sr_base.specs.Limit.{limit_of};
-ghost use Rattle.sr_law.specs.Lawful.{IsLawful, broken, breach_at, breach_first, first_broken, breach_of};
+ghost use Rattle.sr_law.specs.Lawful.{IsLawful, broken, breach_at, first_broken, breach_of};
 ghost use Rattle.sr_law.specs.Retire.{endings_of};
 ghost use Rattle.sr_law.specs.Shaped.{IsShaped};
 ghost use Rattle.sr_law.specs.declared.check_refusal.CheckRefusal.TheVariants.{Memory};
@@ -57,7 +57,7 @@ fn first_broken(setup: &Setup, all: &[Line]) -> Option<CheckRefusal>
     let mut first = None;
     for i in 0..all.len() {
         let next = breach_at(i, broken(setup, all, &all[..i], &all[i]));
-        first = breach_first(first, next);
+        first = first.or(next);
     }
     first
 }
@@ -73,16 +73,6 @@ fn breach_at(before: usize, clause: Option<Clause>) -> Option<CheckRefusal>
             clause,
         }),
         None => None,
-    }
-}
-
-// The first of two, or else the second.
-fn breach_first(first: Option<CheckRefusal>, next: Option<CheckRefusal>) -> Option<CheckRefusal>
-    ensures { result ≡ breach_first first next }
-{
-    match first {
-        Some(breach) => Some(breach),
-        None => next,
     }
 }
 
@@ -108,7 +98,7 @@ fn breach_of(setup: &Setup, lines: &[Line]) -> Option<CheckRefusal>
     }
 }
 
-/// Judges a list of printed lines word by word as the definitions have it, which takes long for more than a few hundred lines. Ok exactly
+/// Judges a list of printed lines word by word as the definitions have it, which takes long for more than some thousands of lines. Ok exactly
 /// where the list is lawful for the setup. `Breach` names the first line, from 1, that breaks a clause, and the first clause in the order
 /// of `Clause` that it breaks; a list that only lacks a final line breaks `Final` at one past its last line. It takes no memory.
 pub fn check_plain(setup: &Setup, lines: &[Line]) -> Result<(), CheckRefusal>

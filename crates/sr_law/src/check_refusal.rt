@@ -1,9 +1,11 @@
 use crate::Clause;
+use thiserror::Error;
 
 /// Why a list isn't lawful, or wasn't judged.
-#[derive(Clone, Copy, Debug, PartialEq, Eq)]
+#[derive(Clone, Copy, Debug, PartialEq, Eq, Error)]
 pub enum CheckRefusal {
     /// The list isn't lawful.
+    #[error("line {line} breaks the clause {clause:?}")]
     Breach {
         /// The first line that breaks a clause, from 1; for `Final` one past the last.
         line: usize,
@@ -11,5 +13,6 @@ pub enum CheckRefusal {
         clause: Clause,
     },
     /// There was no memory.
+    #[error("out of memory")]
     Memory,
 }

@@ -1,5 +1,27 @@
 //! What the load balancer prints, and what a lawful list of printed lines is. A line says what became of a packet, or what the controller
-//! did; the definitions in `specs/` judge a line by the lines before it.
+//! did; the definitions in `specs/` judge a line by the lines before it. `specs/Lawful.antt` puts them together, and `auditor` judges a list.
+//!
+//! | clause | source files | `specs/` |
+//! |---|---|---|
+//! | Order: ticks rise, updates in groups, numbers in range, places | `order`: `rising`, `groups`, `ranges`, `takings` | `Order`: `Rising`, `Groups`, `Ranges`, `Taken` |
+//! | Server: the hash's pick from a named pool | `server`: `givings`, `pools`, `own_pools` | `Server`: `Given`, `Pools` |
+//! | Same: the pool of the opening | `same`: `openings` | `Same`: `Opening` |
+//! | Newer: the pool of the last switch, or a later one | `newer` | `Newer` |
+//! | Number: no version that something holds | `number` | `Number` |
+//! | Cause: a server that is known to be down | `cause`: `downs` | `Cause`: `TakenDown` |
+//! | Cause: an opener was held | `cause`: `clashing`, `keys`, `holding`, `filter` | `Cause`: `Held`, `Keys` |
+//! | Cause: a full ring, no place | `cause`: `full`, `rows` | `Cause`: `Full`, `Rows` |
+//! | Retire: sweeps, and who was quiet for how many | `retire`: `sweeps` | `Retire` |
+//! | Final: each packet has one final line | `pairs`, `packets` | `Final` |
+//!
+//! | part | source files | `specs/` |
+//! |---|---|---|
+//! | A line, its ticks and whose it is | `line`, `verdict`, `choice` | `Ticks` |
+//! | What a list is judged for | `setup` | `Setup`, `Shaped` |
+//! | What the judges find in a list | `giving`, `opening`, `taking`, `sweep` | |
+//! | The auditor and what it answers | `auditor`, `check_refusal`, `clause` | `Lawful` |
+//! | Laws of lawful lists | `laws` | `Laws` |
+//! | When nothing is left to do at the end of a run | none yet | `Settled` |
 #![tactic(auto)]
 
 mod auditor;
@@ -38,7 +60,6 @@ mod sweep;
 mod sweeps;
 mod taking;
 mod takings;
-mod ticks;
 mod verdict;
 
 pub use auditor::{check, check_plain};
@@ -51,7 +72,6 @@ pub use line::Line;
 pub use opening::Opening;
 pub use pools::Pools;
 pub use setup::Setup;
-pub use std::alloc::AllocError as Memory;
 pub use sweep::Sweep;
 pub use taking::Taking;
 pub use verdict::{HeldBy, Verdict};

@@ -1,5 +1,5 @@
 ghost use Rattle.std.specs.Prelude.{◌≡◌, reverse};
-ghost use Rattle.sr_law.specs.Opening.{opened, opened_by, retires, opened_first, opening, is_open};
+ghost use Rattle.sr_law.specs.Opening.{opened, opened_by, retires, opening, is_open};
 
 use crate::{Line, Opening, Verdict};
 use sr_base::{Key, Kind};

@@ -1,9 +1,8 @@
 ghost use Rattle.std.specs.Prelude.{◌≡◌, IfOk, option_copied, option_map};
 ghost use Rattle.sr_law.specs.Pools.{numbered, gives_to};
 
-use crate::Memory;
 use sr_base::{Change, Pool, What};
-use std::alloc::Global;
+use std::alloc::{AllocError, Global};
 use std::marker::Model;
 
 /// The pools of one virtual address.
@@ -28,7 +27,7 @@ impl OwnPools {
         vip: usize,
         first: &Pool,
         changes: &[Change],
-    ) -> Result<OwnPools, Memory>
+    ) -> Result<OwnPools, AllocError>
         ensures { IfOk result (λ p. p ≡ record { first = first.now; given = gives_to vip changes.now }) }
     {
         let first = copied(alloc, first)?;
@@ -51,7 +50,7 @@ impl OwnPools {
 }
 
 // The pools that the changes give to a virtual address.
-fn gives(alloc: Global, vip: usize, changes: &[Change]) -> Result<Vec<Pool>, Memory>
+fn gives(alloc: Global, vip: usize, changes: &[Change]) -> Result<Vec<Pool>, AllocError>
     ensures { IfOk result (λ v. v.items ≡ gives_to vip changes.now) }
 {
     let mut pools = Vec::new(alloc);
@@ -69,7 +68,7 @@ fn gives(alloc: Global, vip: usize, changes: &[Change]) -> Result<Vec<Pool>, Mem
 }
 
 // A pool of the same servers.
-fn copied(alloc: Global, pool: &Pool) -> Result<Pool, Memory>
+fn copied(alloc: Global, pool: &Pool) -> Result<Pool, AllocError>
     ensures { IfOk result (λ p. p ≡ pool.now) }
 {
     let size = pool.size();

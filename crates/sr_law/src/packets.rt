@@ -24,26 +24,11 @@ fn same_packet(a: &Packet, b: &Packet) -> bool
     a.number == b.number && a.key.same(b.key) && same_kind(a.kind, b.kind)
 }
 
-// The packet that a line tells of.
-fn packet_by(line: &Line) -> Option<Packet>
-    ensures { option_to_list result ≡ packet_by line.now }
-{
-    match *line {
-        Line::Packet {
-            number,
-            key,
-            kind,
-            ..
-        } => Some(Packet { number, key, kind }),
-        _ => None,
-    }
-}
-
 // The line tells of this packet.
 fn tells_of(packet: &Packet, line: &Line) -> bool
-    ensures { count_by (same_packet packet.now) (packet_by line.now) ≡ (if result then 1 else 0) }
+    ensures { count_by (same_packet packet.now) (option_to_list (packet_by line.now)) ≡ (if result then 1 else 0) }
 {
-    match packet_by(line) {
+    match line.packet() {
         Some(told) => same_packet(packet, &told),
         None => false,
     }
@@ -87,9 +72,9 @@ fn is_as_often(lines: &[Line], packets: &[Packet], packet: &Packet) -> bool
 
 // The same of the line's packet.
 fn told_as_often(lines: &[Line], packets: &[Packet], line: &Line) -> bool
-    ensures { result ≡ list_all (is_as_often (packets_of (reverse lines.now)) packets.now) (packet_by line.now) }
+    ensures { result ≡ list_all (is_as_often (packets_of (reverse lines.now)) packets.now) (option_to_list (packet_by line.now)) }
 {
-    match packet_by(line) {
+    match line.packet() {
         Some(told) => is_as_often(lines, packets, &told),
         None => true,
     }

@@ -136,7 +136,7 @@ fn all_answers_held(all: &[Line]) -> bool
     every
 }
 
-// The first lines are there; the packets are those of the setup, each once; and answers and held openers pair.
+// The first lines are there; the packets are those of the setup, each as often as there; and answers and held openers pair.
 #[tactic(auto, unfolding(crate::specs::Final::meets_final))]
 pub(crate) fn meets_final(setup: &Setup, all: &[Line]) -> bool
     ensures { result ≡ meets_final setup.now (reverse all.now) }

@@ -1,11 +1,10 @@
 ghost use Rattle.std.specs.Prelude.{◌≡◌, IfOk, option_map, length};
 ghost use Rattle.sr_law.specs.Pools.{pool_of, pools_from, server_of};
 
-use crate::Memory;
 use crate::own_pools::OwnPools;
 use sr_base::{Change, Key, Pool};
 use sr_hash::select;
-use std::alloc::Global;
+use std::alloc::{AllocError, Global};
 use std::marker::Model;
 
 /// The pools of every virtual address, by number. Pool 1 is the one that it begins with, pool K + 1 that of its K-th change in the script,
@@ -26,7 +25,7 @@ impl Model for Pools {
 
 impl Pools {
     /// The pools of these first ones and these changes, a first pool for each virtual address in order.
-    pub fn new(alloc: Global, first: &[Pool], changes: &[Change]) -> Result<Pools, Memory>
+    pub fn new(alloc: Global, first: &[Pool], changes: &[Change]) -> Result<Pools, AllocError>
         ensures { IfOk result (λ p. p ≡ pools_from 0 first.now changes.now) }
     {
         let mut vips = Vec::new(alloc);

@@ -42,6 +42,7 @@ impl Reader {
     /// Reads the 24 bytes of a capture's header, and then judges them. The room for a record is made first, and no call after this one
     /// needs memory.
     pub fn begin<S: Source>(alloc: Global, source: &mut S) -> Result<Reader, BeginRefusal>
+        ensures offset { (n : ℕ) → result ≡ Err (begin.Truncated n) → n ≡ 0 }
         ensures header { ForSome (S.left source.old) (λ xs. Begins (λ r. r.format) result xs (S.left source.new)) }
         ensures link { IfOk result (λ r. (r.format.link ≡ 1) ⊎ (r.format.link ≡ 101)) }
         ensures fresh { IfOk result (λ r. (r.offset ≡ 24) × (r.bytes ≡ []) × (r.ended ≡ None)) }
@@ -145,6 +146,7 @@ impl Reader {
 
 // Reads the 24 bytes of a capture's header, and then judges them.
 fn read_header<S: Source>(source: &mut S) -> Result<Format, BeginRefusal>
+    ensures offset { (n : ℕ) → result ≡ Err (begin.Truncated n) → n ≡ 0 }
     ensures header { ForSome (S.left source.old) (λ xs. Begins (λ f. f) result xs (S.left source.new)) }
     ensures link { IfOk result (λ f. (f.link ≡ 1) ⊎ (f.link ≡ 101)) }
     ensures count { S.faults source.old ≤ S.faults source.new }

@@ -93,6 +93,13 @@ slot_by None (Some p) c place k l e = let bad : slots ≡ moves = sym (ap kind_o
 slot_by None None (Some p) place k l e = let bad : slots ≡ rows = sym (ap kind_of e) ∙ l in absurd cc
 slot_by None None None place k l e = absurd cc
 
+move_by : (a b c : Option Plan) (p : Plan) → IsOf slots a → IsOf rows c → kind_of p ≡ moves → unwrap_or (option_or a (option_or b c)) plan.NoRoom ≡ p → b ≡ Some p
+unfolding kind_of
+move_by (Some q) b c p h l m e = let bad : moves ≡ slots = sym m ∙ sym (ap kind_of e) ∙ h in absurd cc
+move_by None (Some q) c p h l m e = ap Some e
+move_by None None (Some q) p h l m e = let bad : moves ≡ rows = sym m ∙ sym (ap kind_of e) ∙ l in absurd cc
+move_by None None None p h l m e = let bad : moves ≡ nowhere = sym m ∙ sym (ap kind_of e) in absurd cc
+
 pub full_key_last : (shape : Shape) (es : List Entry) (key : KeyView) (row : ℕ) → first_plan shape es key ≡ plan.FullKey row → (slot_plan shape es key ≡ None) × (move_plan shape es key ≡ None)
 unfolding first_plan
 full_key_last shape es key row e = full_by (slot_plan shape es key) (move_plan shape es key) (row_plan shape es key) row (slot_kind shape es key) (move_kind shape es key (key_slots shape key)) e
@@ -108,3 +115,12 @@ none_no_room shape es key a b c = rw (a, b, c) refl
 pub slot_first : (shape : Shape) (es : List Entry) (key : KeyView) (place : Place) → first_plan shape es key ≡ plan.Slot place → slot_plan shape es key ≡ Some (plan.Slot place)
 unfolding first_plan
 slot_first shape es key place e = slot_by (slot_plan shape es key) (move_plan shape es key) (row_plan shape es key) place (move_kind shape es key (key_slots shape key)) (row_kind shape es key) e
+
+pub move_first : (shape : Shape) (es : List Entry) (key other : KeyView) (from to last : Place) → first_plan shape es key ≡ plan.Move other from to last → move_plan shape es key ≡ Some (plan.Move other from to last)
+unfolding first_plan kind_of
+move_first shape es key other from to last e =
+    move_by (slot_plan shape es key) (move_plan shape es key) (row_plan shape es key) (plan.Move other from to last) (slot_kind shape es key) (row_kind shape es key) refl e
+
+pub slot_is_first : (shape : Shape) (es : List Entry) (key : KeyView) (place : Place) → slot_plan shape es key ≡ Some (plan.Slot place) → first_plan shape es key ≡ plan.Slot place
+unfolding first_plan
+slot_is_first shape es key place e = ap (λ s. unwrap_or (option_or s (option_or (move_plan shape es key) (row_plan shape es key))) plan.NoRoom) e

@@ -3,6 +3,7 @@ mod Holding
 mod Later
 mod Listing
 mod Marking
+mod MovedEntry
 mod Moving
 mod NewEntry
 mod PlannedSlot

@@ -16,7 +16,7 @@ use Rattle.sr_shadow.specs.declared.plan.Plan.{Plan}
 use Rattle.sr_shadow.specs.declared.plan.Plan.TheVariants as plan
 
 -- two lists have the same keys and places, one by one
-abbrev Alike : List Entry → List Entry → Type 0
+abbrev pub Alike : List Entry → List Entry → Type 0
 Alike [] [] = Unit {0}
 Alike [] (f ∷ fs) = ⊥
 Alike (e ∷ es) [] = ⊥
@@ -155,7 +155,7 @@ move_alike shape key es fs a (slot ∷ places) =
 row_alike : (shape : Shape) (key : KeyView) (es fs : List Entry) → Alike es fs → row_plan shape fs key ≡ row_plan shape es key
 row_alike shape key es fs a = ap (option_map plan.FullKey) (find_same (λ row. is_free fs (Row row)) (λ row. is_free es (Row row)) (key_rows shape key) (λ row. free_alike es fs a (Row row)))
 
-plan_alike : (shape : Shape) (key : KeyView) (es fs : List Entry) → Alike es fs → first_plan shape fs key ≡ first_plan shape es key
+pub plan_alike : (shape : Shape) (key : KeyView) (es fs : List Entry) → Alike es fs → first_plan shape fs key ≡ first_plan shape es key
 unfolding first_plan
 plan_alike shape key es fs a =
     ap (λ s. unwrap_or (option_or s (option_or (move_plan shape fs key) (row_plan shape fs key))) plan.NoRoom) (slot_alike shape key es fs a)

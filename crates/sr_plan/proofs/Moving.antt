@@ -184,7 +184,7 @@ no_holder place (e ∷ es) key = by (holds place e) (no_holder place es key)
     by true h = refl
     by false h = h
 
-counted_holder : (place : Place) (es : List Entry) (key : KeyView) → holder_of place (with_key key es) ≡ holder_of place es
+pub counted_holder : (place : Place) (es : List Entry) (key : KeyView) → holder_of place (with_key key es) ≡ holder_of place es
 counted_holder place es key = by (is_registered key es)
   where
     by : (b : Bool) → holder_of place (cond b es (es ++ fresh key 0 0 ∷ [])) ≡ holder_of place es
@@ -218,7 +218,7 @@ own_rival shape way k key (e ∷ es) u r apart c = by (is_of key e) (is_placed e
         ap (λ b. b || is_clashing shape way k es) (all (is_outside e) (is_of k e) (clashes shape way k e.key) (outside e.place t) other clash)
     by false p s t more u r = either (is_rival shape way k e) (is_clashing shape way k es) (more u r)
 
-counted_rivals : (shape : Shape) (way : ℕ) (k key : KeyView) (es : List Entry) → NonePlaced key es → same_key k key ≡ false
+pub counted_rivals : (shape : Shape) (way : ℕ) (k key : KeyView) (es : List Entry) → NonePlaced key es → same_key k key ≡ false
     → is_clashing shape way k (with_key key es) ≡ (is_clashing shape way k es || clashes shape way k key)
 counted_rivals shape way k key es u apart = by (is_registered key es) refl
   where

@@ -22,7 +22,7 @@ use Rattle.sr_plan.proofs.Later.{slot_first}
 same_number : (a b : ℕ) → (a == b) ≡ (b == a)
 same_number a b = grind (arith, nat_tests)
 
-clashes-sym : (shape : Shape) (way : ℕ) (a b : KeyView) → clashes shape way a b ≡ clashes shape way b a
+pub clashes-sym : (shape : Shape) (way : ℕ) (a b : KeyView) → clashes shape way a b ≡ clashes shape way b a
 clashes-sym shape way a b =
     ap (λ t. t && ((bucket_of way a shape.buckets == bucket_of way b shape.buckets) && (digest_of way a shape.digest_bits == digest_of way b shape.digest_bits))) (same_number a.vip b.vip)
     ∙ (ap (λ t. (b.vip == a.vip) && (t && (digest_of way a shape.digest_bits == digest_of way b shape.digest_bits))) (same_number (bucket_of way a shape.buckets) (bucket_of way b shape.buckets))
@@ -34,7 +34,7 @@ none_passes p [] i e at none = absurd cc
 none_passes p (x ∷ xs) zero e at none = subst (λ y. p y ≡ false) (some_same x e at) (or_parts _ _ none).0
 none_passes p (x ∷ xs) (suc i) e at none = none_passes p xs i e at (or_parts (p x) (list_any p xs) none).1
 
-get_mapped : (g : Entry → Entry) (es : List Entry) (i : ℕ) → slice_get (map g es) i ≡ option_map g (slice_get es i)
+pub get_mapped : (g : Entry → Entry) (es : List Entry) (i : ℕ) → slice_get (map g es) i ≡ option_map g (slice_get es i)
 get_mapped g [] i = refl
 get_mapped g (x ∷ xs) zero = refl
 get_mapped g (x ∷ xs) (suc i) = get_mapped g xs i
@@ -72,7 +72,7 @@ other_clear shape k key place (x ∷ xs) apart h = by (is_of key x) refl (other_
     by false t more = ap (λ b. b || list_any (is_mistaken shape k) (with_changed (settled place) key xs)) (or_parts (is_mistaken shape k x) (list_any (is_mistaken shape k) xs) h).0 ∙ more
 
 -- what a planned slot is
-found_usable : (p : Place → Bool) (places : List Place) (place : Place) → find p places ≡ Some place → p place ≡ true
+pub found_usable : (p : Place → Bool) (places : List Place) (place : Place) → find p places ≡ Some place → p place ≡ true
 found_usable p [] place h = absurd cc
 found_usable p (x ∷ xs) place h = by (p x) refl (found_usable p xs place) h
   where
@@ -113,26 +113,30 @@ apart_there shape es key (Slot way bucket cell) i e usable at out other =
     shut true c e = e
     shut false c e = refl
 
-pub planned_slot_clear : (shape : Shape) (es : List Entry) (key : KeyView) (place : Place) → first_plan shape es key ≡ plan.Slot place → AllClearBut key shape es → AllClear shape (with_changed (settled place) key es)
-planned_slot_clear shape es key place h clear i e at out =
-    let p = planned shape es key place (slot_first shape es key place h) in
-    by (slice_get es i) refl (sym (get_mapped (λ x. cond (is_of key x) (settled place x) x) es i) ∙ at) p.0 p.1
+-- where the key is clear and the place usable for it, each entry that was clear stays so, and the key's own is
+pub each_clear : (shape : Shape) (es : List Entry) (key : KeyView) (place : Place) (i : ℕ) (e : Entry) → is_clear shape es key ≡ true → is_usable shape es key place ≡ true
+    → ((x : Entry) → slice_get es i ≡ Some x → is_of key x ≡ false → x ≡ e → is_clear shape es x.key ≡ true)
+    → slice_get (with_changed (settled place) key es) i ≡ Some e → is_outside e ≡ true → is_clear shape (with_changed (settled place) key es) e.key ≡ true
+each_clear shape es key place i e own usable clear at out = by (slice_get es i) refl (sym (get_mapped (λ x. cond (is_of key x) (settled place x) x) es i) ∙ at)
   where
     turned : (b : Bool) → b ≡ false → not b ≡ true
     turned true e = absurd cc
     turned false e = refl
 
-    of : (x : Entry) (b : Bool) → is_of key x ≡ b → slice_get es i ≡ Some x → cond b (settled place x) x ≡ e → is_clear shape es key ≡ true → is_usable shape es key place ≡ true
-        → is_clear shape (with_changed (settled place) key es) e.key ≡ true
-    of x true t at it own usable =
+    of : (x : Entry) (b : Bool) → is_of key x ≡ b → slice_get es i ≡ Some x → cond b (settled place x) x ≡ e → is_clear shape (with_changed (settled place) key es) e.key ≡ true
+    of x true t at it =
         let k : key ≡ e.key = same_key-true key x.key t ∙ ap (λ y. y.key) it in
         subst (λ y. is_clear shape (with_changed (settled place) key es) y ≡ true) k (turned _ (own_clear shape key place es (not-true _ own)))
-    of x false t at it own usable =
+    of x false t at it =
         let outside : is_outside x ≡ true = subst (λ y. is_outside y ≡ true) (sym it) out in
         subst (λ y. is_clear shape (with_changed (settled place) key es) y.key ≡ true) it
-        (turned _ (other_clear shape x.key key place es (apart_there shape es key place i x usable at outside t) (not-true _ (clear i x at t outside))))
+        (turned _ (other_clear shape x.key key place es (apart_there shape es key place i x usable at outside t) (not-true _ (clear x at t it))))
 
-    by : (o : Option Entry) → slice_get es i ≡ o → option_map (λ x. cond (is_of key x) (settled place x) x) o ≡ Some e → is_clear shape es key ≡ true → is_usable shape es key place ≡ true
-        → is_clear shape (with_changed (settled place) key es) e.key ≡ true
-    by None f h own usable = absurd cc
-    by (Some x) f h own usable = of x (is_of key x) refl f (some_same _ e h) own usable
+    by : (o : Option Entry) → slice_get es i ≡ o → option_map (λ x. cond (is_of key x) (settled place x) x) o ≡ Some e → is_clear shape (with_changed (settled place) key es) e.key ≡ true
+    by None f h = absurd cc
+    by (Some x) f h = of x (is_of key x) refl f (some_same _ e h)
+
+pub planned_slot_clear : (shape : Shape) (es : List Entry) (key : KeyView) (place : Place) → first_plan shape es key ≡ plan.Slot place → AllClearBut key shape es → AllClear shape (with_changed (settled place) key es)
+planned_slot_clear shape es key place h clear i e at out =
+    let p = planned shape es key place (slot_first shape es key place h) in
+    each_clear shape es key place i e p.0 p.1 (λ x found t it. clear i x found t (subst (λ y. is_outside y ≡ true) (sym it) out)) at out

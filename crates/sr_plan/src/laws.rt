@@ -1,12 +1,12 @@
 //! What the first plan means.
 
-ghost use Rattle.std.specs.Prelude.{◌≡◌, ◌++◌, ◌∷◌, ℕ, Bool, List, [], None, false};
+ghost use Rattle.std.specs.Prelude.{◌≡◌, ◌++◌, ◌∷◌, ℕ, Bool, List, [], None, Some, false};
 ghost use Rattle.sr_base.specs.Key.{KeyView, same_key};
 ghost use Rattle.sr_base.specs.declared.place.Place.{Place};
 ghost use Rattle.sr_base.specs.declared.shape.Shape.{Shape};
-ghost use Rattle.sr_shadow.specs.Book.{is_registered, with_changed};
-ghost use Rattle.sr_shadow.specs.Entry.{closed, fresh, settled, swept};
-ghost use Rattle.sr_shadow.specs.Plan.{AllClear, AllClearBut, KeepsPlaces, first_plan, move_plan, row_plan, slot_plan};
+ghost use Rattle.sr_shadow.specs.Book.{DistinctKeys, entry_for, holder_of, is_registered, with_changed};
+ghost use Rattle.sr_shadow.specs.Entry.{closed, fresh, left_other, settled, swept};
+ghost use Rattle.sr_shadow.specs.Plan.{AllClear, AllClearBut, IsUnplaced, KeepsPlaces, first_plan, move_plan, row_plan, slot_plan};
 ghost use Rattle.sr_shadow.specs.declared.entry.Entry.{Entry};
 ghost use Rattle.sr_shadow.specs.declared.plan.Plan.TheVariants as plan;
 
@@ -35,4 +35,22 @@ pub fn marks_change_no_plan()
 pub fn slots_stay_apart()
     ensures { (shape : Shape) (es : List Entry) (key : KeyView) (place : Place) → first_plan shape es key ≡ plan.Slot place → AllClearBut key shape es
         → AllClear shape (with_changed (settled place) key es) }
+{}
+
+/// A planned move makes room: the entry is Live at the slot that it leaves, nobody holds the slot that it moves to, and once it is Live there and
+/// has left its own, the plan of the key is the slot that the move is for.
+pub fn moves_make_room()
+    ensures mover { (shape : Shape) (es : List Entry) (key other : KeyView) (from to last : Place) → first_plan shape es key ≡ plan.Move other from to last
+        → DistinctKeys es → (e : Entry) × (entry_for other es ≡ Some e) × (e.place ≡ Some from) }
+    ensures free { (shape : Shape) (es : List Entry) (key other : KeyView) (from to last : Place) → first_plan shape es key ≡ plan.Move other from to last
+        → holder_of to es ≡ None }
+    ensures slot { (shape : Shape) (es : List Entry) (key other : KeyView) (from to last : Place) → first_plan shape es key ≡ plan.Move other from to last
+        → IsUnplaced key es → first_plan shape (with_changed left_other other (with_changed (settled to) other es)) key ≡ plan.Slot last }
+{}
+
+/// Where packets of no other registered key outside the full-key table are taken for another connection's, a planned move leaves it so.
+pub fn moves_stay_apart()
+    ensures { (shape : Shape) (es : List Entry) (key other : KeyView) (from to last : Place) → first_plan shape es key ≡ plan.Move other from to last
+        → DistinctKeys es → IsUnplaced key es → AllClearBut key shape es
+        → AllClearBut key shape (with_changed left_other other (with_changed (settled to) other es)) }
 {}

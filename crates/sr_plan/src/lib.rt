@@ -13,7 +13,10 @@ mod planning;
 mod rows;
 mod slots;
 
-pub use laws::{later_ways, marks_change_no_plan, slots_stay_apart, taking_makes_no_room};
+pub use laws::{
+    later_ways, marks_change_no_plan, moves_make_room, moves_stay_apart, slots_stay_apart,
+    taking_makes_no_room,
+};
 pub use plain::plan_plain;
 pub use planning::plan;
 pub use sr_shadow::Plan;

@@ -1,7 +1,6 @@
 //! Logs that are judged by the narrow scene's script.
-use crate::play::{FIRST, Played, Row, play_over};
-use sr_io::{MemShelf, MemSink, SureShelf};
-use sr_run::Status;
+use crate::play::{FIRST, READ_FAULT, Row, is_cut_short, row_of, told_over, told_with};
+use sr_io::MemShelf;
 use std::alloc::{AllocError, Global};
 use std::test::Fail;
 use std::thread::Threads;
@@ -25,107 +24,128 @@ addr = \"192.0.2.1:80\"
 pool = [0]
 ";
 
+// Logs, and after `--` what is told of each.
+const LOGS: &str = "silkroad 1
+give 1 0 0 1
+packet 1 2 3 0 0/10.0.0.9:4000 open to 0 0 1
+packet 2 4 5 0 0/10.0.0.9:4000 data to 0 0 1
+--
+lawful 3
+exit 0
+==
+silkroad 1
+skip 1 nottcp
+skip 2 notvip
+give 1 0 0 1
+packet 3 2 3 0 0/10.0.0.9:4000 open to 0 0 1
+--
+lawful 2
+exit 0
+==
+silkroad 1
+give 1 0 0 1
+packet 1 2 3 0 0/10.0.0.9:4000 open to 0 0 1
+packet 2 4 5 0 0/10.0.0.9:4000 data to 1 0 1
+--
+exit 8 silkroad: audit: line 4 breaks server
+==
+silkroad 1
+skip 3 short
+give 1 0 0 1
+packet 1 2 3 0 0/10.0.0.9:4000 open to 0 0 1
+packet 2 4 5 0 0/10.0.0.9:4000 data to 1 0 1
+--
+exit 8 silkroad: audit: line 5 breaks server
+==
+silkroad 1
+give 1 0 0 1
+packet 1 2 3 0 0/10.0.0.9:4000 open to 0 0 1
+packet 2 4 5 0 0/10.0.0.9:4000 data--
+exit 8 silkroad: audit: line 4 breaks text
+==
+silkroad 1
+give 1 0 0 1
+packet 2 4 5 0 0/10.0.0.9:4000 data to 0 0 1
+--
+exit 8 silkroad: audit: line 4 breaks final
+==
+silkroad 1
+give 2 0 0 1
+--
+exit 8 silkroad: audit: line 2 breaks order
+==
+--
+exit 8 silkroad: audit: line 1 breaks text
+";
+
 // The words, over a log in pieces.
-fn row_of(log: &[u8]) -> Row<'_> {
+fn log_row(log: &[u8]) -> Row<'_> {
     Row {
-        words: &["audit", "scene"],
-        input: log,
-        piece: 7,
-        read_fails: 0,
-        write_fails: 0,
+        words: "audit|scene",
+        ..row_of(log, 7)
     }
 }
 
-/// Judges a log by a script.
-pub fn judged<R: Threads + Sync>(
+/// Whether this is told of a log that is judged by a script.
+pub fn judges<R: Threads + Sync>(
     rt: &R,
     alloc: Global,
     script: &[u8],
-    log: &[u8],
-) -> Result<Played, AllocError> {
-    let mut shelf = SureShelf::new(Vec::from_slice(alloc, script)?);
-    play_over(rt, alloc, row_of(log), &mut shelf)
+    log: &str,
+    wanted: &str,
+) -> Result<bool, AllocError> {
+    let told = told_with(rt, alloc, log_row(log.as_bytes()), script)?;
+    Ok(told.bytes() == wanted.as_bytes())
 }
 
-/// What the program says of a status on standard error.
-pub fn said(alloc: Global, status: &Status) -> Result<Vec<u8>, AllocError> {
-    let mut sink = MemSink::new(alloc, 1000, Vec::new(alloc))?;
-    let _ = status.text(&mut sink);
-    Vec::from_slice(alloc, sink.bytes())
+// The first row that is judged otherwise. Empty where none is.
+fn misjudged<R: Threads + Sync>(rt: &R, alloc: Global) -> Result<&'static str, AllocError> {
+    for row in LOGS.split("==\n") {
+        let (log, wanted) = row.split_once("--\n").unwrap_or((row, ""));
+        if !judges(rt, alloc, SCENE.as_bytes(), log, wanted)? {
+            return Ok(row);
+        }
+    }
+    Ok("")
 }
-
-// A log, what is printed of it, its status's code and text.
-const LOGS: [(&[u8], &[u8], u8, &[u8]); 8] = [
-    (FIRST, b"lawful 3\n", 0, b""),
-    (
-        b"silkroad 1\nskip 1 nottcp\nskip 2 notvip\ngive 1 0 0 1\npacket 3 2 3 0 0/10.0.0.9:4000 open to 0 0 1\n",
-        b"lawful 2\n",
-        0,
-        b"",
-    ),
-    (
-        b"silkroad 1\ngive 1 0 0 1\npacket 1 2 3 0 0/10.0.0.9:4000 open to 0 0 1\npacket 2 4 5 0 0/10.0.0.9:4000 data to 1 0 1\n",
-        b"",
-        8,
-        b"silkroad: audit: line 4 breaks server\n",
-    ),
-    (
-        b"silkroad 1\nskip 3 short\ngive 1 0 0 1\npacket 1 2 3 0 0/10.0.0.9:4000 open to 0 0 1\npacket 2 4 5 0 0/10.0.0.9:4000 data to 1 0 1\n",
-        b"",
-        8,
-        b"silkroad: audit: line 5 breaks server\n",
-    ),
-    (
-        b"silkroad 1\ngive 1 0 0 1\npacket 1 2 3 0 0/10.0.0.9:4000 open to 0 0 1\npacket 2 4 5 0 0/10.0.0.9:4000 data",
-        b"",
-        8,
-        b"silkroad: audit: line 4 breaks text\n",
-    ),
-    (
-        b"silkroad 1\ngive 1 0 0 1\npacket 2 4 5 0 0/10.0.0.9:4000 data to 0 0 1\n",
-        b"",
-        8,
-        b"silkroad: audit: line 4 breaks final\n",
-    ),
-    (
-        b"silkroad 1\ngive 2 0 0 1\n",
-        b"",
-        8,
-        b"silkroad: audit: line 2 breaks order\n",
-    ),
-    (b"", b"", 8, b"silkroad: audit: line 1 breaks text\n"),
-];
 
 #[test]
 fn logs(rt: HostRuntime) -> Result<(), Fail> {
-    for (log, output, code, text) in LOGS {
-        let played = judged(&rt, rt.alloc(), SCENE.as_bytes(), log)?;
-        assert_eq!(rt; played.output.as_slice(), output);
-        assert_eq!(rt; played.status.code(), code);
-        let said = said(rt.alloc(), &played.status)?;
-        assert_eq!(rt; said.as_slice(), text);
-    }
+    assert_eq!(rt; misjudged(&rt, rt.alloc())?, "");
     Ok(())
+}
+
+// Whether a shelf without the script is a read fault.
+fn lacks_script<R: Threads + Sync>(rt: &R, alloc: Global) -> Result<bool, AllocError> {
+    let mut none = MemShelf::new(Vec::new(alloc), Vec::new(alloc));
+    let told = told_over(rt, alloc, log_row(FIRST.as_bytes()), &mut none)?;
+    Ok(told.bytes() == READ_FAULT.as_bytes())
+}
+
+// Whether the second read's fault is told.
+fn tells_read_fault<R: Threads + Sync>(rt: &R, alloc: Global) -> Result<bool, AllocError> {
+    let row = Row {
+        read_fails: 2,
+        ..log_row(FIRST.as_bytes())
+    };
+    let told = told_with(rt, alloc, row, SCENE.as_bytes())?;
+    Ok(told.bytes() == READ_FAULT.as_bytes())
+}
+
+// Whether the first write's fault is told.
+fn tells_write_fault<R: Threads + Sync>(rt: &R, alloc: Global) -> Result<bool, AllocError> {
+    let row = Row {
+        write_fails: 1,
+        ..log_row(FIRST.as_bytes())
+    };
+    let told = told_with(rt, alloc, row, SCENE.as_bytes())?;
+    Ok(is_cut_short(told.bytes(), "lawful 3\n"))
 }
 
 #[test]
 fn devices(rt: HostRuntime) -> Result<(), Fail> {
-    let alloc = rt.alloc();
-    let mut none = MemShelf::new(Vec::new(alloc), Vec::new(alloc));
-    let played = play_over(&rt, alloc, row_of(FIRST), &mut none)?;
-    assert_eq!(rt; played.status, Status::ReadFault);
-    let mut shelf = SureShelf::new(Vec::from_slice(alloc, SCENE.as_bytes())?);
-    let cut = Row {
-        read_fails: 2,
-        ..row_of(FIRST)
-    };
-    let played = play_over(&rt, alloc, cut, &mut shelf)?;
-    assert_eq!(rt; played.status, Status::ReadFault);
-    let full = Row {
-        write_fails: 1,
-        ..row_of(FIRST)
-    };
-    let played = play_over(&rt, alloc, full, &mut shelf)?;
-    assert_eq!(rt; played.status, Status::WriteFault);
+    assert!(rt; lacks_script(&rt, rt.alloc())?, "no script");
+    assert!(rt; tells_read_fault(&rt, rt.alloc())?, "a read fails");
+    assert!(rt; tells_write_fault(&rt, rt.alloc())?, "a write fails");
     Ok(())
 }

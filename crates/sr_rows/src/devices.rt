@@ -1,51 +1,57 @@
 //! The first run over devices that fail at their k-th call.
-use crate::bytes::first_run;
-use crate::play::{FIRST, Row, play, row_of};
-use sr_run::Status;
+use crate::play::{
+    FIRST, FIRST_TOLD, READ_FAULT, Row, first_run, is_cut_short, row_of, tells, told_with,
+};
+use std::alloc::{AllocError, Global};
 use std::test::Fail;
+use std::thread::Threads;
 
-// The source is read once for the header, twice for each record, and once more.
-#[test]
-fn each_failing_read(rt: HostRuntime) -> Result<(), Fail> {
-    let input = first_run(rt.alloc())?;
+// The first run's row, in which these calls fail.
+fn failing(input: &[u8], read_fails: u64, write_fails: u64) -> Row<'_> {
+    Row {
+        read_fails,
+        write_fails,
+        ..row_of(input, 4096)
+    }
+}
+
+// The source is read once for the header, twice for each record, and once more. The first call whose fault isn't told.
+fn passed_over_read<R: Threads + Sync>(
+    rt: &R,
+    alloc: Global,
+    input: &[u8],
+) -> Result<Option<u64>, AllocError> {
     for k in 1..=6 {
-        let row = Row {
-            read_fails: k,
-            ..row_of(&input, 4096)
-        };
-        let played = play(&rt, rt.alloc(), row)?;
-        assert_eq!(rt; played.status, Status::ReadFault, "call {k}");
-        assert_eq!(rt; played.output.len(), 0, "call {k}");
+        if !tells(rt, alloc, failing(input, k, 0), READ_FAULT)? {
+            return Ok(Some(k));
+        }
     }
-    Ok(())
+    Ok(None)
 }
 
-// The sink takes the head, the opening line and two packets, and is flushed.
-#[test]
-fn each_failing_write(rt: HostRuntime) -> Result<(), Fail> {
-    let input = first_run(rt.alloc())?;
+// The sink takes the head, the opening line and two packets, and is flushed. The first call whose fault isn't told.
+fn passed_over_write<R: Threads + Sync>(
+    rt: &R,
+    alloc: Global,
+    input: &[u8],
+) -> Result<Option<u64>, AllocError> {
     for k in 1..=5 {
-        let row = Row {
-            write_fails: k,
-            ..row_of(&input, 4096)
-        };
-        let played = play(&rt, rt.alloc(), row)?;
-        assert_eq!(rt; played.status, Status::WriteFault, "call {k}");
-        assert!(rt; FIRST.starts_with(&played.output), "call {k}");
+        let told = told_with(rt, alloc, failing(input, 0, k), &[])?;
+        if !is_cut_short(told.bytes(), FIRST) {
+            return Ok(Some(k));
+        }
     }
-    Ok(())
+    Ok(None)
 }
 
 #[test]
-fn no_further_call(rt: HostRuntime) -> Result<(), Fail> {
+fn each_failing_call(rt: HostRuntime) -> Result<(), Fail> {
     let input = first_run(rt.alloc())?;
-    let row = Row {
-        read_fails: 7,
-        write_fails: 6,
-        ..row_of(&input, 4096)
-    };
-    let played = play(&rt, rt.alloc(), row)?;
-    assert_eq!(rt; played.status, Status::Done);
-    assert_eq!(rt; played.output.as_slice(), FIRST);
+    assert_eq!(rt; passed_over_read(&rt, rt.alloc(), &input)?, None, "read");
+    assert_eq!(rt; passed_over_write(&rt, rt.alloc(), &input)?, None, "write");
+    assert!(rt;
+        tells(&rt, rt.alloc(), failing(&input, 7, 6), FIRST_TOLD)?,
+        "a further call"
+    );
     Ok(())
 }

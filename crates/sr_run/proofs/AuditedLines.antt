@@ -1,5 +1,6 @@
 -- What judging a log needs to know of pools and of what the auditor of lists names.
 use Rattle.std.proofs.Common.{◌≡◌, ℕ, ◌+◌, ◌≤◌, Bool, true, false, cond, List, [], ◌∷◌, length, reverse, Option, Some, None, inl, inr, ◌⊎◌, refl, sym, ap, ◌∙◌, subst, arith}
+use Rattle.std.specs.Option.{option_or}
 use Rattle.std.proofs.lemmas.List.{length-reverse}
 use Rattle.sr_base.specs.Limit.{limit_of}
 use Rattle.sr_base.specs.declared.change.Change.{Change}
@@ -10,7 +11,7 @@ use Rattle.sr_law.specs.declared.clause.Clause.{Clause}
 use Rattle.sr_law.specs.declared.clause.Clause.TheVariants as C
 use Rattle.sr_law.specs.declared.line.Line.{Line}
 use Rattle.sr_law.specs.Final.{meets_final}
-use Rattle.sr_law.specs.Lawful.{broken, breach_at, breach_first, first_broken, breach_of}
+use Rattle.sr_law.specs.Lawful.{broken, breach_at, first_broken, breach_of}
 use Rattle.sr_law.specs.Pools.{pools_from}
 use Rattle.sr_law.specs.Retire.{EndingPacket, endings_of}
 use Rattle.sr_law.specs.Setup.{SetupView}
@@ -34,7 +35,7 @@ within_more most later None le within = tt
 within_more most later (Some (Breach line what)) le within = omega arith
 within_more most later (Some Memory) le within = tt
 
-within_first : (most : ℕ) (a b : Option CheckRefusal) → IsWithin most a → IsWithin most b → IsWithin most (breach_first a b)
+within_first : (most : ℕ) (a b : Option CheckRefusal) → IsWithin most a → IsWithin most b → IsWithin most (option_or a b)
 within_first most None b first second = second
 within_first most (Some breach) b first second = first
 
@@ -47,7 +48,7 @@ unfolding first_broken
 first_within setup endings [] = tt
 first_within setup endings (line ∷ before) =
     let e : length before + 1 ≡ length (line ∷ before) = omega arith in
-    subst (λ n. IsWithin n (breach_first (first_broken setup endings before) (breach_at (length before + 1) (broken setup endings before line)))) e
+    subst (λ n. IsWithin n (option_or (first_broken setup endings before) (breach_at (length before + 1) (broken setup endings before line)))) e
     (within_first (length before + 1) (first_broken setup endings before) _
     (within_more (length before) (length before + 1) (first_broken setup endings before) (omega arith) (first_within setup endings before))
     (within_at (length before + 1) (broken setup endings before line)))

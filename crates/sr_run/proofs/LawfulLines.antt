@@ -2,6 +2,7 @@
 use Rattle.std.proofs.Common.{◌≡◌, ℕ, zero, suc, ◌+◌, ◌<◌, ◌≤◌, Bool, true, false, cond, not, ◌||◌, ◌&&◌, ◌==◌, List, [], ◌∷◌, ◌++◌, length, take, drop, reverse, Option, Some, None, refl, sym, ap, ◌∙◌, subst, append_assoc, append-nil, Result, Ok, Err, arith}
 use Rattle.std.specs.Prelude.{slice_get, slice_index, nat_le, nat_lt, option_map, count_by}
 use Rattle.std.specs.List.{range_with_len, list_any, list_all}
+use Rattle.std.specs.Option.{option_or}
 use Rattle.std.proofs.lemmas.List.{reverse-append}
 use Rattle.std.proofs.lemmas.List.FromFn.{get_or-range_with_len, length-range_with_len}
 use Rattle.std.proofs.lemmas.List.Sums.{sum_by-append, sum_by-cons}
@@ -22,7 +23,7 @@ use Rattle.sr_law.specs.Groups.{keeps_groups}
 use Rattle.sr_law.specs.Lawful.{broken, IsLawful, NoLineBreaks}
 use Rattle.sr_law.specs.Newer.{last_switched, is_new_pool, meets_newer}
 use Rattle.sr_law.specs.Number.{meets_number}
-use Rattle.sr_law.specs.Opening.{opening, is_open, opened_by, opened_first}
+use Rattle.sr_law.specs.Opening.{opening, is_open, opened_by}
 use Rattle.sr_law.specs.Order.{meets_order}
 use Rattle.sr_law.specs.Pools.{pool_of, server_of, picked}
 use Rattle.sr_law.specs.Ranges.{in_range}
@@ -35,9 +36,10 @@ use Rattle.sr_law.specs.Taken.{keeps_places}
 use Rattle.sr_law.specs.TakenDown.{is_known_down}
 use Rattle.sr_law.specs.Ticks.{lines_before, out_of, start_of}
 use Rattle.sr_law.proofs.Clauses.{meets, none_broken}
-use Rattle.sr_run.specs.One.{one_lines, one_pools, one_setup, opening_line, packet_line, packet_lines}
-use Rattle.sr_run.specs.Run.{IsLawfulIn, PrintsLawful, KeepServers, lines_of, lines_in}
-use Rattle.sr_run.specs.Capture.{packets_from, records_behind}
+use Rattle.sr_frame.specs.declared.skip.Skip.{Skip}
+use Rattle.sr_run.specs.One.{one_lines, one_pools, one_setup, one_text, opening_line, packet_line, packet_lines, IsLawfulIn, PrintsLawful, KeepServers, lines_of, lines_in}
+use Rattle.sr_run.specs.Capture.{packets_from, skips_from, records_behind}
+use Rattle.sr_text.specs.LineText.{log_text}
 use Rattle.sr_pcap.specs.declared.begin_refusal.BeginRefusal.{BeginRefusal}
 use Rattle.sr_pcap.specs.declared.format.Format.{Format}
 use Rattle.sr_pcap.specs.Format.{header_of}
@@ -71,7 +73,7 @@ earlier_more : (tick later : ℕ) (before : List Line) → tick ≤ later → Al
 earlier_more tick later [] le early = tt
 earlier_more tick later (line ∷ before) le early = (omega arith, omega arith, earlier_more tick later before le early.2)
 
-first_of : (a b : Option Opening) → HasPoolOne a → HasPoolOne b → HasPoolOne (opened_first a b)
+first_of : (a b : Option Opening) → HasPoolOne a → HasPoolOne b → HasPoolOne (option_or a b)
 first_of None b first second = second
 first_of (Some o) b first second = first
 
@@ -306,10 +308,17 @@ one_is_lawful servers packets some first =
       final_met servers last packets (reverse (one_lines servers packets)) (rw (e, sym (append-nil (reverse packets))) held),
     )
 
+-- what is printed is the text of the lines
+text_of_lines : (servers : ℕ) (skips : List (ℕ × Skip)) (packets : List Packet) → one_text servers skips packets ≡ log_text skips (one_lines servers packets)
+unfolding one_text
+text_of_lines servers skips packets = refl
+
 lawful_in : (header : Result Format BeginRefusal) (vip : ℕ × ℕ) (servers : ℕ) (bytes : List ℕ) → 1 ≤ servers → IsLawfulIn header vip servers bytes
 lawful_in (Ok format) vip servers bytes some =
-    let frames = (records_behind format bytes).frames in
-    one_is_lawful servers (packets_from format.link vip 1 frames) some (packets_first format.link vip 1 frames)
+    let frames = (records_behind format bytes).frames in (
+      text_of_lines servers (skips_from format.link vip 1 frames) (packets_from format.link vip 1 frames),
+      one_is_lawful servers (packets_from format.link vip 1 frames) some (packets_first format.link vip 1 frames),
+    )
 lawful_in (Err why) vip servers bytes some = tt
 
 -- whatever is read

@@ -70,15 +70,15 @@ Says (judged.Broken line what) count status old new = (status ≡ Breach line wh
 Says judged.Memory count status old new = (status ≡ Memory) × Adds old new []
 
 -- what each status says of the log that was read, and of what the sink took
-abbrev pub Answers : Status → Spelled → List (ℕ × Skip) → List Line → Option (List ℕ) → Option (List ℕ) → Type 0
-Answers Done s skips lines old new = IsAudited s skips lines × Adds old new (lawful_text (length lines))
-Answers Usage s skips lines old new = ⊥
-Answers (Script refusal) s skips lines old new = ⊥
-Answers (Capture why) s skips lines old new = ⊥
-Answers ReadFault s skips lines old new = ⊥
-Answers WriteFault s skips lines old new = IsAudited s skips lines × AddsFront old new (lawful_text (length lines))
-Answers Memory s skips lines old new = Adds old new []
-Answers (Breach line what) s skips lines old new = IsBroken s skips lines line what × Adds old new []
+abbrev pub AnswersOfLog : Status → Spelled → List (ℕ × Skip) → List Line → Option (List ℕ) → Option (List ℕ) → Type 0
+AnswersOfLog Done s skips lines old new = IsAudited s skips lines × Adds old new (lawful_text (length lines))
+AnswersOfLog Usage s skips lines old new = ⊥
+AnswersOfLog (Script refusal) s skips lines old new = ⊥
+AnswersOfLog (Capture why) s skips lines old new = ⊥
+AnswersOfLog ReadFault s skips lines old new = ⊥
+AnswersOfLog WriteFault s skips lines old new = IsAudited s skips lines × AddsFront old new (lawful_text (length lines))
+AnswersOfLog Memory s skips lines old new = Adds old new []
+AnswersOfLog (Breach line what) s skips lines old new = IsBroken s skips lines line what × Adds old new []
 
 -- the bytes are the text of this log, and no longer than a log may be; and all of them were read
 pub record IsText (bytes : List ℕ) (left : Option (List ℕ)) (skips : List (ℕ × Skip)) (lines : List Line) : Type 0 where
@@ -89,7 +89,7 @@ pub record IsText (bytes : List ℕ) (left : Option (List ℕ)) (skips : List (�
 
 -- so it is with some log
 abbrev pub AnswersLog : Status → Spelled → List ℕ → Option (List ℕ) → Option (List ℕ) → Option (List ℕ) → Type 0
-AnswersLog status s bytes left old new = (skips : List (ℕ × Skip)) × (lines : List Line) × IsText bytes left skips lines × Answers status s skips lines old new
+AnswersLog status s bytes left old new = (skips : List (ℕ × Skip)) × (lines : List Line) × IsText bytes left skips lines × AnswersOfLog status s skips lines old new
 
 -- what each status says of the bytes of a log, what is left of them, and what the sink took
 abbrev pub AuditsLog : Status → Spelled → List ℕ → Option (List ℕ) → Option (List ℕ) → Option (List ℕ) → Type 0

@@ -1,83 +1,51 @@
--- What a run of the program does to what it reads and prints.
-use Rattle.std.specs.Prelude.{◌≡◌, ℕ, List, [], drop, Option, Some, None, Result, Ok, Err, IsTrue, slice_get}
+-- What holds of every command: the statuses that it may end with, and what these say of the sink.
+use Rattle.std.specs.Prelude.{◌≡◌, ℕ, List, [], Option, Some, None}
 use Rattle.sr_io.specs.Sink.{Adds, AddsFront}
 use Rattle.sr_io.specs.declared.sink.Put.{Put}
 use Rattle.sr_io.specs.declared.sink.Put.TheVariants as put
-use Rattle.sr_law.specs.declared.line.Line.{Line}
-use Rattle.sr_law.specs.Lawful.{IsLawful}
-use Rattle.sr_law.specs.Pools.{VipPools}
-use Rattle.sr_law.specs.Same.{meets_same}
-use Rattle.sr_law.specs.Server.{meets_server}
-use Rattle.sr_law.specs.Ticks.{lines_before}
-use Rattle.sr_pcap.specs.declared.begin_refusal.BeginRefusal.{BeginRefusal}
-use Rattle.sr_pcap.specs.declared.format.Format.{Format}
-use Rattle.sr_pcap.specs.Format.{header_of}
 use Rattle.sr_run.specs.declared.status.CaptureRefusal.{CaptureRefusal}
 use Rattle.sr_run.specs.declared.status.Status.{Status}
 use Rattle.sr_run.specs.declared.status.Status.TheVariants.{Done, Usage, Script, Capture, ReadFault, WriteFault, Memory, Breach}
-use Rattle.sr_run.specs.Capture.{records_behind, ending_of, packets_from, skips_from, header_refusal}
-use Rattle.sr_run.specs.One.{one_lines, one_pools, one_setup, one_text}
+use Rattle.sr_run.specs.Command.{Command, One, Make, Audit}
 
--- the refusal of a capture with this header, if it is refused
-abbrev pub refusal_in : Result Format BeginRefusal → List ℕ → Option CaptureRefusal
-refusal_in (Ok format) bytes = ending_of (records_behind format bytes).ending
-refusal_in (Err why) bytes = Some (header_refusal why)
+-- `one` reads a capture, and knows neither scripts nor rules of lines
+abbrev pub EndsOne : Status → Type 0
+EndsOne Done = Unit {0}
+EndsOne Usage = ⊥
+EndsOne (Script refusal) = ⊥
+EndsOne (Capture why) = Unit {0}
+EndsOne ReadFault = Unit {0}
+EndsOne WriteFault = Unit {0}
+EndsOne Memory = Unit {0}
+EndsOne (Breach line what) = ⊥
 
--- what a command prints of a capture with this header
-abbrev pub printed_in : Result Format BeginRefusal → ℕ × ℕ → ℕ → List ℕ → List ℕ
-printed_in (Ok format) vip servers bytes =
-    let frames = (records_behind format bytes).frames in
-    one_text servers (skips_from format.link vip 1 frames) (packets_from format.link vip 1 frames)
-printed_in (Err why) vip servers bytes = []
+-- `make` reads nothing
+abbrev pub EndsMake : Status → Type 0
+EndsMake Done = Unit {0}
+EndsMake Usage = ⊥
+EndsMake (Script refusal) = ⊥
+EndsMake (Capture why) = ⊥
+EndsMake ReadFault = ⊥
+EndsMake WriteFault = Unit {0}
+EndsMake Memory = Unit {0}
+EndsMake (Breach line what) = ⊥
 
--- the lines that a command prints of a capture with this header
-abbrev pub lines_in : Result Format BeginRefusal → ℕ × ℕ → ℕ → List ℕ → List Line
-lines_in (Ok format) vip servers bytes = one_lines servers (packets_from format.link vip 1 (records_behind format bytes).frames)
-lines_in (Err why) vip servers bytes = []
+-- `audit` reads a script and a log
+abbrev pub EndsAudit : Status → Type 0
+EndsAudit Done = Unit {0}
+EndsAudit Usage = ⊥
+EndsAudit (Script refusal) = Unit {0}
+EndsAudit (Capture why) = ⊥
+EndsAudit ReadFault = Unit {0}
+EndsAudit WriteFault = Unit {0}
+EndsAudit Memory = Unit {0}
+EndsAudit (Breach line what) = Unit {0}
 
--- why these bytes are refused, if they are
-unfoldable pub refusal_of : List ℕ → Option CaptureRefusal
-refusal_of bytes = refusal_in (header_of bytes) (drop 24 bytes)
-
--- what `one` prints of these bytes: of a capture that is refused in a record the whole records before it
-unfoldable pub printed : ℕ × ℕ → ℕ → List ℕ → List ℕ
-printed vip servers bytes = printed_in (header_of bytes) vip servers (drop 24 bytes)
-
--- the lines among what `one` prints of these bytes
-unfoldable pub lines_of : ℕ × ℕ → ℕ → List ℕ → List Line
-lines_of vip servers bytes = lines_in (header_of bytes) vip servers (drop 24 bytes)
-
--- After these lines a line keeps to its connection's server: while the connection is open the line has its opening's pool, and its server is
--- the one that the key's hash picks from that pool.
-abbrev pub KeepsServer : List VipPools → List Line → Line → Type 0
-KeepsServer pools before line = IsTrue (meets_same before line) × IsTrue (meets_server pools before line)
-
--- each of these lines does, after those before it
-abbrev pub KeepServers : List VipPools → List Line → Type 0
-KeepServers pools lines = (i : ℕ) (line : Line) → slice_get lines i ≡ Some line → KeepsServer pools (lines_before i lines) line
-
--- the lines of a capture with this header are lawful for the command's setup
-abbrev pub IsLawfulIn : Result Format BeginRefusal → ℕ × ℕ → ℕ → List ℕ → Type 0
-IsLawfulIn (Ok format) vip servers bytes =
-    let packets = packets_from format.link vip 1 (records_behind format bytes).frames in
-    IsLawful (one_setup servers packets) (one_lines servers packets)
-IsLawfulIn (Err why) vip servers bytes = Unit {0}
-
--- The lines that `one` prints of these bytes are lawful for its setup: no line breaks a clause by the lines before it, and each packet
--- has its final line. Where the header is refused there are none.
-unfoldable pub PrintsLawful : ℕ × ℕ → ℕ → List ℕ → Type 0
-PrintsLawful vip servers bytes = IsLawfulIn (header_of bytes) vip servers (drop 24 bytes)
-
--- What each status says of `one` over these bytes: what is left of them, and what the sink took.
-abbrev pub Answers : Status → ℕ × ℕ → ℕ → List ℕ → Option (List ℕ) → Option (List ℕ) → Option (List ℕ) → Type 0
-Answers Done vip servers bytes left old new = (refusal_of bytes ≡ None) × (left ≡ Some []) × Adds old new (printed vip servers bytes)
-Answers Usage vip servers bytes left old new = ⊥
-Answers (Script refusal) vip servers bytes left old new = ⊥
-Answers (Capture why) vip servers bytes left old new = (refusal_of bytes ≡ Some why) × Adds old new (printed vip servers bytes)
-Answers ReadFault vip servers bytes left old new = Adds old new []
-Answers WriteFault vip servers bytes left old new = AddsFront old new (printed vip servers bytes)
-Answers Memory vip servers bytes left old new = Adds old new []
-Answers (Breach line what) vip servers bytes left old new = ⊥
+-- a command may end with this status, whatever the devices
+abbrev pub MayEnd : Command → Status → Type 0
+MayEnd (One vip servers) status = EndsOne status
+MayEnd (Make number packets) status = EndsMake status
+MayEnd (Audit script) status = EndsAudit status
 
 -- after these statuses nothing was written
 abbrev pub WritesNothing : Status → Option (List ℕ) → Option (List ℕ) → Type 0

@@ -1,13 +1,17 @@
-ghost use Rattle.std.specs.Prelude.{◌≡◌, ◌≢◌, ◌≤◌, ◌⊎◌, ℕ, List, Option, Some};
+ghost use Rattle.std.specs.Prelude.{◌≡◌, ◌≢◌, ◌≤◌, ◌⊎◌};
+ghost use Rattle.std.specs.Option.{ForSome};
 ghost use Rattle.sr_io.specs.Faults.{Rose};
 ghost use Rattle.sr_io.specs.Sink.{Puts};
 ghost use Rattle.sr_io.specs.declared.sink.Put.TheVariants as put;
 ghost use Rattle.sr_law.specs.Final.{packets_of};
+ghost use Rattle.sr_script.specs.Fault.{fault_of};
 ghost use Rattle.sr_script.specs.Fitting.{IsFitting};
 ghost use Rattle.sr_script.specs.Script.{spelled};
+ghost use Rattle.sr_script.specs.declared.refusal.ScriptRefusal.{ScriptRefusal as ARefusal};
 ghost use Rattle.sr_text.specs.Log.{line_count};
 ghost use Rattle.sr_run.specs.Audit.{Audits, AuditsLog, HasNumbers, Judges, Says, lawful_text};
-ghost use Rattle.sr_run.specs.Run.{WritesNothing};
+ghost use Rattle.sr_run.specs.Run.{EndsAudit, WritesNothing};
+ghost use Rattle.sr_run.specs.ScriptText.{IsNoScript};
 ghost use Rattle.sr_run.specs.declared.status.Status.TheVariants as status;
 
 use crate::Status;
@@ -29,9 +33,10 @@ pub(crate) fn run_audit<S: Source, F: Shelf, K: Sink>(
     shelf: &mut F,
     sink: &mut K,
 ) -> Status
-    ensures audit { (texts : List ℕ → Option (List ℕ)) (xs : List ℕ) → F.texts shelf.old ≡ Some texts → S.left source.old ≡ Some xs
-        → Audits result (texts script.now) xs (S.left source.new) (K.taken sink.old) (K.taken sink.new) }
-    ensures a_command { result ≢ status.Usage }
+    ensures audit { ForSome (F.texts shelf.old) (λ texts. ForSome (S.left source.old) (λ xs.
+        Audits result (texts script.now) xs (S.left source.new) (K.taken sink.old) (K.taken sink.new))) }
+    ensures script { (refusal : ARefusal) → ForSome (F.texts shelf.old) (λ texts. result ≡ status.Script refusal → IsNoScript (texts script.now) (fault_of refusal)) }
+    ensures ends { EndsAudit result }
     ensures quiet { WritesNothing result (K.taken sink.old) (K.taken sink.new) }
     ensures read_fault { result ≡ status.ReadFault → Rose (S.faults source.old) (S.faults source.new) ⊎ Rose (F.faults shelf.old) (F.faults shelf.new) }
     ensures write_fault { result ≡ status.WriteFault → Rose (K.faults sink.old) (K.faults sink.new) }
@@ -52,8 +57,9 @@ fn audit_log<S: Source, K: Sink>(
     sink: &mut K,
 ) -> Status
     requires { IsFitting (spelled script.now) }
-    ensures log { (xs : List ℕ) → S.left source.old ≡ Some xs → AuditsLog result (spelled script.now) xs (S.left source.new) (K.taken sink.old) (K.taken sink.new) }
-    ensures a_command { result ≢ status.Usage }
+    ensures log { ForSome (S.left source.old) (λ xs. AuditsLog result (spelled script.now) xs (S.left source.new) (K.taken sink.old) (K.taken sink.new)) }
+    ensures script { (refusal : ARefusal) → result ≢ status.Script refusal }
+    ensures ends { EndsAudit result }
     ensures quiet { WritesNothing result (K.taken sink.old) (K.taken sink.new) }
     ensures read_fault { result ≡ status.ReadFault → Rose (S.faults source.old) (S.faults source.new) }
     ensures write_fault { result ≡ status.WriteFault → Rose (K.faults sink.old) (K.faults sink.new) }

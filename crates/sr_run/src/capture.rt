@@ -1,4 +1,5 @@
 ghost use Rattle.std.specs.Prelude.{◌≡◌, ◌≤◌, ◌+◌, ◌++◌, ◌⊎◌, ◌<◌, List, ℕ, Some, None, OnOk, length};
+ghost use Rattle.std.specs.Option.{ForSome};
 ghost use Rattle.sr_io.specs.Faults.{Rose};
 ghost use Rattle.sr_run.specs.Capture.{Reads, ReadsOn, IsFew, IsReadFault, EndsWith, packet_of, reading_without, skip_of};
 
@@ -38,7 +39,7 @@ pub enum Reading {
 
 /// Reads a whole capture, of which the packets to this virtual address are kept.
 pub(crate) fn read_capture<S: Source>(alloc: Global, vip: (u32, u16), source: &mut S) -> Reading
-    ensures capture { (xs : List ℕ) → S.left source.old ≡ Some xs → Reads result vip xs (S.left source.new) }
+    ensures capture { ForSome (S.left source.old) (λ xs. Reads result vip xs (S.left source.new)) }
     ensures few { IsFew result }
     ensures count { S.faults source.old ≤ S.faults source.new }
     ensures read_fault { IsReadFault result → Rose (S.faults source.old) (S.faults source.new) }
@@ -72,7 +73,7 @@ fn read_records<S: Source>(
 ) -> Reading
     requires fresh { (reader.offset ≡ 24) × (reader.ended ≡ None) }
     requires link { (reader.format.link ≡ 1) ⊎ (reader.format.link ≡ 101) }
-    ensures capture { (xs : List ℕ) → S.left source.old ≡ Some xs → ReadsOn result reader.format vip xs (S.left source.new) }
+    ensures capture { ForSome (S.left source.old) (λ xs. ReadsOn result reader.format vip xs (S.left source.new)) }
     ensures few { IsFew result }
     ensures count { S.faults source.old ≤ S.faults source.new }
     ensures read_fault { IsReadFault result → Rose (S.faults source.old) (S.faults source.new) }

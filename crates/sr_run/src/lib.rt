@@ -1,8 +1,14 @@
 //! All that the program does, behind one call. `run` reads the words, and does what the command says over a source, a shelf, a sink and a
 //! gate; what it prints is a stated function of the bytes that it reads.
 //!
-//! `command` reads the words, `servers` and `numbers` are what stands among them. `capture` reads a whole capture, and `print_log` prints. `one` and
-//! `make_capture` are the commands. `status` is how a run ends.
+//! | part | what it is |
+//! |---|---|
+//! | `top` | `run` |
+//! | `command`, `parting`, `servers`, `numbers` | the words: the command, its parts by the command-line library, and what stands among them |
+//! | `one`, with `capture`, `print_log` | the command `one`: a whole capture is read, then printed |
+//! | `make_capture` | the command `make` |
+//! | `audit`, with `script_text`, `numbering`, `judged` | the command `audit`: the script, the log, the records' numbers, and what it came to |
+//! | `status` | how a run ends |
 #![tactic(auto)]
 
 mod audit;

@@ -1,7 +1,7 @@
-ghost use Rattle.std.specs.Prelude.{◌≡◌, ◌≢◌, ◌≤◌};
+ghost use Rattle.std.specs.Prelude.{◌≡◌, ◌≤◌};
 ghost use Rattle.sr_io.specs.Faults.{Rose};
 ghost use Rattle.sr_run.specs.Make.{Makes};
-ghost use Rattle.sr_run.specs.Run.{WritesNothing};
+ghost use Rattle.sr_run.specs.Run.{EndsMake, WritesNothing};
 ghost use Rattle.sr_run.specs.declared.status.Status.TheVariants as status;
 
 use crate::Status;
@@ -12,9 +12,8 @@ use sr_io::{Put, Sink};
 pub(crate) fn run_make<K: Sink>(number: u64, packets: u32, sink: &mut K) -> Status
     requires { (1 ≤ packets) × (packets ≤ 4194304) }
     ensures made { Makes result number packets (K.taken sink.old) (K.taken sink.new) }
-    ensures a_command { result ≢ status.Usage }
+    ensures ends { EndsMake result }
     ensures quiet { WritesNothing result (K.taken sink.old) (K.taken sink.new) }
-    ensures reads_nothing { result ≢ status.ReadFault }
     ensures count { K.faults sink.old ≤ K.faults sink.new }
     ensures write_fault { result ≡ status.WriteFault → Rose (K.faults sink.old) (K.faults sink.new) }
 {

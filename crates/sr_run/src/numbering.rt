@@ -1,4 +1,4 @@
-ghost use Rattle.std.specs.Prelude.{◌≡◌, ◌↔◌, ◌∷◌, [], IfOk, IsTrue, MatchOption, length};
+ghost use Rattle.std.specs.Prelude.{◌≡◌, ◌↔◌, IfOk, IsTrue, length};
 ghost use Rattle.std.specs.List.{range_with_len};
 ghost use Rattle.sr_law.specs.Final.{packet_by, packets_of};
 ghost use Rattle.sr_run.specs.Numbering.{IsNumbering, numbers_of};
@@ -23,7 +23,7 @@ pub(crate) fn packets_of(alloc: Global, lines: &[Line]) -> Result<Vec<Packet>, A
 
 // The packet that a line tells of.
 fn packet_of(line: &Line) -> Option<Packet>
-    ensures { MatchOption result (packet_by line.now ≡ []) (λ p. packet_by line.now ≡ p ∷ []) }
+    ensures { result ≡ packet_by line.now }
 {
     match *line {
         Line::Packet {

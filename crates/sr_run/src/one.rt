@@ -1,7 +1,8 @@
-ghost use Rattle.std.specs.Prelude.{◌≡◌, ◌≢◌, ◌≤◌, List, ℕ, Some, length};
+ghost use Rattle.std.specs.Prelude.{◌≡◌, ◌≤◌, length};
+ghost use Rattle.std.specs.Option.{ForSome};
 ghost use Rattle.sr_io.specs.Faults.{Rose};
-ghost use Rattle.sr_run.specs.Run.{Answers, WritesNothing, EndsPrinting, finished};
-ghost use Rattle.sr_run.specs.One.{one_text};
+ghost use Rattle.sr_run.specs.One.{RunsOne, one_text};
+ghost use Rattle.sr_run.specs.Run.{EndsOne, EndsPrinting, WritesNothing, finished};
 ghost use Rattle.sr_run.specs.declared.status.Status.TheVariants as status;
 
 use crate::capture::{Captured, Reading, read_capture};
@@ -19,8 +20,8 @@ pub(crate) fn run_one<S: Source, K: Sink>(
     sink: &mut K,
 ) -> Status
     requires { 1 ≤ servers }
-    ensures one { (xs : List ℕ) → S.left source.old ≡ Some xs → Answers result vip servers xs (S.left source.new) (K.taken sink.old) (K.taken sink.new) }
-    ensures a_command { result ≢ status.Usage }
+    ensures one { ForSome (S.left source.old) (λ xs. RunsOne result vip servers xs (S.left source.new) (K.taken sink.old) (K.taken sink.new)) }
+    ensures ends { EndsOne result }
     ensures quiet { WritesNothing result (K.taken sink.old) (K.taken sink.new) }
     ensures source_count { S.faults source.old ≤ S.faults source.new }
     ensures sink_count { K.faults sink.old ≤ K.faults sink.new }

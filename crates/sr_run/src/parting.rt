@@ -65,8 +65,8 @@ fn argument_names(name: &str) -> &'static [&'static str]
     &[]
 }
 
-#[tactic(auto, using(crate::proofs::Parts::met))]
 // The parts that were found: the command's name, and the texts of its arguments.
+#[tactic(auto, using(crate::proofs::Parts::met))]
 fn parts_of<'a>(alloc: Global, matches: &ArgMatches<'a>) -> Result<Vec<&'a str>, AllocError>
     ensures { IfOk result (λ parts. texts parts.items ≡ parts_of (subcommand_rows_of matches.now)) }
 {

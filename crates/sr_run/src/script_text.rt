@@ -1,4 +1,5 @@
-ghost use Rattle.std.specs.Prelude.{◌≡◌, ◌≢◌, ◌≤◌, ℕ, List, Option, Some, length};
+ghost use Rattle.std.specs.Prelude.{◌≡◌, ◌≢◌, ◌≤◌, Some, length};
+ghost use Rattle.std.specs.Option.{ForSome};
 ghost use Rattle.sr_io.specs.Faults.{Rose};
 ghost use Rattle.sr_run.specs.ScriptText.{Fetches, IsReady};
 ghost use Rattle.sr_run.specs.declared.script_text.Fetched.TheVariants as fetched;
@@ -22,7 +23,7 @@ pub(crate) enum Fetched {
 
 /// Fetches the script of this name. Its text has 1,048,576 bytes at most.
 pub(crate) fn fetch_script<F: Shelf>(alloc: Global, name: &str, shelf: &mut F) -> Fetched
-    ensures text { (texts : List ℕ → Option (List ℕ)) → F.texts shelf.old ≡ Some texts → Fetches result (texts name.now) }
+    ensures text { ForSome (F.texts shelf.old) (λ texts. Fetches result (texts name.now)) }
     ensures ready { IsReady result }
     ensures count { F.faults shelf.old ≤ F.faults shelf.new }
     ensures failed { result ≡ fetched.ReadFault → Rose (F.faults shelf.old) (F.faults shelf.new) }

@@ -5,8 +5,8 @@ ghost use Rattle.sr_run.specs.Servers.{addresses_of, all_differ, counted, same_a
 use sr_script::address;
 use std::alloc::{AllocError, Global};
 
-#[tactic(auto, unfolding(crate::specs::Servers::count_of_servers))]
 /// How many servers a word names: addresses joined by commas, 1 to 255, all different. None for every other word.
+#[tactic(auto, unfolding(crate::specs::Servers::count_of_servers))]
 pub(crate) fn count_of_servers(alloc: Global, word: &str) -> Result<Option<u8>, AllocError>
     ensures value { IfOk result (λ n. n ≡ count_of_servers word.now) }
     ensures some { IfOk result (λ n. IfSome n (λ servers. 1 ≤ servers)) }

@@ -9,30 +9,37 @@ use sr_io::{Put, Sink};
 use sr_law::Clause;
 use sr_script::ScriptRefusal;
 use sr_text::LineText;
+use thiserror::Error;
 
 /// Why a capture was refused.
-#[derive(Clone, Copy, Debug, PartialEq, Eq)]
+#[derive(Clone, Copy, Debug, PartialEq, Eq, Error)]
 pub enum CaptureRefusal {
     /// The input ends inside the header or the record that begins at this offset.
+    #[error("cut at {offset}")]
     Cut {
         /// In bytes from the capture's begin.
         offset: u64,
     },
     /// The record at this offset has more than 262,144 captured bytes.
+    #[error("too long at {offset}")]
     TooLong {
         /// In bytes from the capture's begin.
         offset: u64,
     },
     /// A record begins at this offset after 4,194,304 whole ones.
+    #[error("too many at {offset}")]
     TooMany {
         /// In bytes from the capture's begin.
         offset: u64,
     },
     /// The magic isn't that of a classic capture (pcap 2.4).
+    #[error("magic")]
     Magic,
     /// The major version isn't 2.
+    #[error("major")]
     Major,
     /// The link type is neither Ethernet nor raw IP.
+    #[error("link type")]
     LinkType,
 }
 

@@ -1,4 +1,4 @@
-use Rattle.sr_run.proofs.Running.{answers_refused, answers_read, prints_a_command}
+use Rattle.sr_run.proofs.Running.{answers_refused, answers_read, prints_an_end}
 use Rattle.sr_run.proofs.one.run_one.Goals as goal
 
 pub returns-in-Refused-clause-one : goal.returns-in-Refused-clause-one
@@ -12,5 +12,5 @@ returns-in-Read-clause-one g c = λ xs e.
     answers_read c.args.vip c.args.servers xs (g.S.Source.left c.read_capture.new.source) (g.K.Sink.taken c.args.sink.now) (g.K.Sink.taken c.print_captured.new.sink)
     c.print_captured.result c.in-Read.captured read.0 read.1 read.2 c.print_captured.ensures.printed
 
-pub returns-in-Read-clause-a_command : goal.returns-in-Read-clause-a_command
-returns-in-Read-clause-a_command g c = prints_a_command c.print_captured.result _ _ _ _ c.print_captured.ensures.printed
+pub returns-in-Read-clause-ends : goal.returns-in-Read-clause-ends
+returns-in-Read-clause-ends g c = prints_an_end c.print_captured.result _ _ _ _ c.print_captured.ensures.printed
