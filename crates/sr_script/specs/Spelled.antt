@@ -9,7 +9,7 @@ use Rattle.sr_base.specs.declared.change.What.TheVariants.{Give, TakeDown}
 abbrev pub Address : Type 0
 Address = ℕ × ℕ
 
--- what a script says
+-- what a script says: its shape, its virtual addresses and its servers, the first pool of each virtual address, its changes
 pub record Spelled : Type 0 where
   pub shape : Shape
   pub vips : List Address

@@ -8,16 +8,16 @@ use thiserror::Error;
 #[derive(Clone, Copy, Debug, PartialEq, Eq, Error)]
 pub enum LogRefusal {
     /// A line isn't one of the grammar, or follows 33,554,432 lines.
-    #[error("line {number} is none of the grammar")]
+    #[error("line {number} is bad")]
     BadLine {
         /// The number of the first such line, from 1.
         number: u64,
     },
     /// The source failed.
-    #[error("the source failed")]
+    #[error("read fault")]
     ReadFault,
     /// No memory was found.
-    #[error("out of memory")]
+    #[error("no memory")]
     Memory,
 }
 
