@@ -69,7 +69,7 @@ settled place e = record e { place = Some place; also = e.place; quiet = None }
 abbrev pub left_other : Entry → Entry
 left_other e = record e { also = None }
 
--- the quiet sweeps since the base after one more, which the place was hit before or wasn't
+-- the quiet sweeps in a row after one more, which the place was hit before or wasn't; the first one counts none
 abbrev pub quiet_after : Bool → Option ℕ → ℕ
 quiet_after hit None = 0
 quiet_after hit (Some n) = if hit then 0 else min 255 (n + 1)

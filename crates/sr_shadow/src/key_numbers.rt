@@ -2,7 +2,7 @@ ghost use Rattle.std.specs.Prelude.{◌≡◌, ◌+◌, ◌<◌, ◌≤◌, List
 ghost use Rattle.indexmap.specs.IndexMap.{get, spare};
 ghost use Rattle.sr_base.specs.Key.{packed};
 ghost use Rattle.sr_shadow.specs.Book.{is_registered};
-ghost use Rattle.sr_shadow.specs.Numbers.{Numbered};
+ghost use Rattle.sr_shadow.specs.KeyNumbers.{Numbered};
 ghost use Rattle.sr_shadow.specs.declared.entry.Entry.{Entry as AnEntry};
 
 use indexmap::IndexMap;
@@ -11,16 +11,16 @@ use std::alloc::{AllocError, Global};
 
 // From a key to the number of its entry.
 #[derive(Drop)]
-pub(crate) struct Numbers {
+pub(crate) struct KeyNumbers {
     map: IndexMap<u64, u64>,
 }
 
-impl Numbers {
+impl KeyNumbers {
     // Of no entry.
-    pub(crate) fn new(alloc: Global) -> Numbers
+    pub(crate) fn new(alloc: Global) -> KeyNumbers
         ensures { Numbered (get nat_eq result.map) [] }
     {
-        Numbers {
+        KeyNumbers {
             map: IndexMap::new(alloc),
         }
     }

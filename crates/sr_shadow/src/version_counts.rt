@@ -1,6 +1,6 @@
 ghost use Rattle.std.specs.Prelude.{◌≡◌, ◌+◌, ◌-◌, ◌^◌, ◌<◌, ◌≤◌, List, [], ◌∷◌, ◌++◌, slice_index_or, slice_set, length, IfOk};
 ghost use Rattle.sr_shadow.specs.Book.{count_of};
-ghost use Rattle.sr_shadow.specs.Counts.{cell_of, Counted, FewCounted, HasCounted};
+ghost use Rattle.sr_shadow.specs.VersionCounts.{cell_of, Counted, FewCounted, HasCounted};
 ghost use Rattle.sr_shadow.specs.declared.entry.Entry.{Entry as AnEntry};
 
 use crate::Entry;
@@ -10,11 +10,11 @@ use std::marker::Model;
 
 // How many registered keys have a virtual address and a version.
 #[derive(Drop)]
-pub(crate) struct Counts {
+pub(crate) struct VersionCounts {
     table: Vec<u64>,
 }
 
-impl Model for Counts {
+impl Model for VersionCounts {
     ghost use Rattle.std.specs.Prelude.{◌≡◌, ℕ, List, length};
 
     ghost Value = { List ℕ };
@@ -24,12 +24,12 @@ impl Model for Counts {
     ghost invariant = { λ c. length c.table.items ≡ 1024 };
 }
 
-impl Counts {
+impl VersionCounts {
     // Of no entry.
-    pub(crate) fn new(alloc: Global) -> Result<Counts, AllocError>
+    pub(crate) fn new(alloc: Global) -> Result<VersionCounts, AllocError>
         ensures { IfOk result (λ c. Counted c []) }
     {
-        Ok(Counts {
+        Ok(VersionCounts {
             table: vec![in alloc; 0; 1024]?,
         })
     }
