@@ -1,6 +1,7 @@
 pub mod Book
 pub mod Entry
 pub mod Holders
+pub mod Index
 pub mod KeyNumbers
 pub mod Plan
 pub mod Rivals

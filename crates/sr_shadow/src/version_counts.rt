@@ -1,5 +1,6 @@
-ghost use Rattle.std.specs.Prelude.{◌≡◌, ◌+◌, ◌-◌, ◌^◌, ◌<◌, ◌≤◌, List, [], ◌∷◌, ◌++◌, slice_index_or, slice_set, length, IfOk};
+ghost use Rattle.std.specs.Prelude.{◌≡◌, ◌<◌, List, [], IfOk};
 ghost use Rattle.sr_shadow.specs.Book.{count_of};
+ghost use Rattle.sr_shadow.specs.Index.{KeptWith, KeptWithout};
 ghost use Rattle.sr_shadow.specs.VersionCounts.{cell_of, Counted, FewCounted, HasCounted};
 ghost use Rattle.sr_shadow.specs.declared.entry.Entry.{Entry as AnEntry};
 
@@ -46,7 +47,7 @@ impl VersionCounts {
     #[tactic(auto, using(crate::proofs::Tables::counted_more, crate::proofs::Tables::counted_few))]
     pub(crate) fn join(&mut self, entry: &Entry)
         requires { FewCounted self.old }
-        ensures { (es : List AnEntry) → Counted self.old es → Counted self.new (es ++ entry.now ∷ []) }
+        ensures { KeptWith Counted self.old self.new entry.now }
     {
         let at = cell(entry);
         self.table[at] += 1;
@@ -56,7 +57,7 @@ impl VersionCounts {
     #[tactic(auto, using(crate::proofs::Tables::counted_less, crate::proofs::Tables::counted_one))]
     pub(crate) fn drop_out(&mut self, entry: &Entry)
         requires { HasCounted self.old entry.now }
-        ensures { (front back : List AnEntry) → Counted self.old (front ++ entry.now ∷ back) → Counted self.new (front ++ back) }
+        ensures { KeptWithout Counted self.old self.new entry.now }
     {
         let at = cell(entry);
         self.table[at] -= 1;
