@@ -44,7 +44,9 @@ impl KeyNumbers {
     // One entry more.
     pub(crate) fn join(&mut self, key: Key, number: u64)
         requires { 0 < spare self.old.map }
-        ensures more { (es : List AnEntry) (e : AnEntry) → e.key ≡ key → e.taken ≡ number → is_registered key es ≡ false → Numbered (get nat_eq self.old.map) es → Numbered (get nat_eq self.new.map) (es ++ e ∷ []) }
+        ensures more { (es : List AnEntry) (e : AnEntry) → e.key ≡ key → e.taken ≡ number → is_registered key es ≡ false
+            → Numbered (get nat_eq self.old.map) es
+            → Numbered (get nat_eq self.new.map) (es ++ e ∷ []) }
         ensures room { spare self.old.map ≤ spare self.new.map + 1 }
     {
         key_ranges(key);
@@ -56,7 +58,9 @@ impl KeyNumbers {
 
     // The key's entry less.
     pub(crate) fn drop_out(&mut self, key: Key)
-        ensures less { (front back : List AnEntry) (e : AnEntry) → e.key ≡ key → is_registered key front ≡ false → is_registered key back ≡ false → Numbered (get nat_eq self.old.map) (front ++ e ∷ back) → Numbered (get nat_eq self.new.map) (front ++ back) }
+        ensures less { (front back : List AnEntry) (e : AnEntry) → e.key ≡ key → is_registered key front ≡ false → is_registered key back ≡ false
+            → Numbered (get nat_eq self.old.map) (front ++ e ∷ back)
+            → Numbered (get nat_eq self.new.map) (front ++ back) }
         ensures room { spare self.old.map ≤ spare self.new.map }
     {
         key_ranges(key);

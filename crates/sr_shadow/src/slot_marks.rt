@@ -54,7 +54,9 @@ impl SlotMarks {
     // Something else in a slot.
     pub(crate) fn set(&mut self, at: usize, slot: &Option<Entry>)
         requires { (slots : List (ℕ × Option AnEntry)) × Marked self.old slots × (at < length slots) }
-        ensures marked { (before after : List (ℕ × Option AnEntry)) (s : ℕ × Option AnEntry) (number : ℕ) → at ≡ length before → Marked self.old (before ++ s ∷ after) → Marked self.new (before ++ (number, slot.now) ∷ after) }
+        ensures marked { (before after : List (ℕ × Option AnEntry)) (s : ℕ × Option AnEntry) (number : ℕ) → at ≡ length before
+            → Marked self.old (before ++ s ∷ after)
+            → Marked self.new (before ++ (number, slot.now) ∷ after) }
         ensures room { marks_room self.new ≡ marks_room self.old }
     {
         self.filled.set(at, slot.is_some());
