@@ -1,8 +1,5 @@
 //! A small book: two buckets, digests of one bit and four rows, so that keys clash.
 
-ghost use Rattle.std.specs.Prelude.{◌≡◌, true, None};
-ghost use Rattle.sr_shadow.specs.Book.{CanLeave, CanSettle, CanSweep, holder_of};
-
 use sr_base::{Key, Layout, Place, Shape, Version};
 use sr_shadow::{Entry, Shadow, Took};
 use std::alloc::{AllocError, Global};
@@ -77,7 +74,7 @@ impl Book {
 
     /// Whether the key may settle there, and then does.
     pub(crate) fn settle(&mut self, key: Key, place: Place) -> bool {
-        if !may_settle(&self.shadow, key, place) {
+        if !self.shadow.can_settle(key, place) {
             return false;
         }
         self.shadow.settle(key, place);
@@ -86,7 +83,7 @@ impl Book {
 
     /// Whether the key may leave a place, and then does.
     pub(crate) fn leave(&mut self, key: Key) -> bool {
-        if !may_leave(&self.shadow, key) {
+        if !self.shadow.can_leave(key) {
             return false;
         }
         self.shadow.leave(key);
@@ -95,7 +92,7 @@ impl Book {
 
     /// Whether the key may be swept, and then is.
     pub(crate) fn sweep(&mut self, key: Key, hit: bool) -> bool {
-        if !may_sweep(&self.shadow, key) {
+        if !self.shadow.can_sweep(key) {
             return false;
         }
         self.shadow.swept(key, hit);
@@ -167,33 +164,5 @@ fn copied(entry: Option<&Entry>) -> Option<Entry> {
     match entry {
         Some(entry) => Some(*entry),
         None => None,
-    }
-}
-
-fn may_settle(book: &Shadow, key: Key, place: Place) -> bool
-    ensures registered { result ≡ true → CanSettle key book.now.entries }
-    ensures free { result ≡ true → holder_of place book.now.entries ≡ None }
-{
-    match book.get(key) {
-        Some(entry) => entry.also.is_none() && book.holder(place).is_none(),
-        None => false,
-    }
-}
-
-fn may_leave(book: &Shadow, key: Key) -> bool
-    ensures { result ≡ true → CanLeave key book.now.entries }
-{
-    match book.get(key) {
-        Some(entry) => entry.also.is_some(),
-        None => false,
-    }
-}
-
-fn may_sweep(book: &Shadow, key: Key) -> bool
-    ensures { result ≡ true → CanSweep key book.now.entries }
-{
-    match book.get(key) {
-        Some(entry) => entry.place.is_some(),
-        None => false,
     }
 }

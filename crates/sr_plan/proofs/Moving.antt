@@ -126,12 +126,12 @@ registered : (key : KeyView) (es : List Entry) (e : Entry) → entry_for key es 
 registered key es e h = found_any (is_of key) (is_of key) es e h (found_passes (is_of key) es e h)
 
 -- A place is free with the entry at another place where it isn't that place, and nobody else holds it.
-pub left_free : (es : List Entry) (key : KeyView) (e : Entry) (to place : Place) → HeldOnce es → IsMover key e es
+pub free_after : (es : List Entry) (e : Entry) (to place : Place) → HeldOnce es → entry_for e.key es ≡ Some e
     → is_free (with_moved e.key to es) place ≡ (not (same_place place to) && is_nobody_else (holder_of place es) e.key)
-left_free es key e to place once mover =
+free_after es e to place once own =
     free_any (with_moved e.key to es) place
     ∙ ap not (moved_any es e.key to place)
-    ∙ ap (λ r. not ((r && same_place place to) || list_any (holds_but e.key place) es)) (registered e.key es e mover.own)
+    ∙ ap (λ r. not ((r && same_place place to) || list_any (holds_but e.key place) es)) (registered e.key es e own)
     ∙ ap (λ a. not ((true && same_place place to) || a)) (others_hold place es e.key once)
     ∙ turned (same_place place to) (is_nobody_else (holder_of place es) e.key)
   where

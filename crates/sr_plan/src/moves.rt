@@ -1,6 +1,5 @@
 ghost use Rattle.std.specs.Prelude.{◌≡◌, ◌≤◌, IfSome, Some, true, find, option_copied};
 ghost use Rattle.sr_shadow.specs.Book.{entry_for, holder_of};
-ghost use Rattle.sr_shadow.specs.Entry.{is_at};
 ghost use Rattle.sr_shadow.specs.Plan.{entry_at, first_move, first_usable, is_free, move_from, move_of, other_way, slot_then, slots_of, target, with_moved, move_plan};
 ghost use Rattle.sr_shadow.specs.declared.entry.Entry.{Entry as AnEntry};
 ghost use Rattle.sr_plan.specs.Moves.{IsMover, NonePlaced, if_at, is_nobody_else, is_slot};
@@ -69,7 +68,7 @@ fn placed_at(shadow: &Shadow, place: Place, key: Key) -> Option<&Entry>
 fn if_at(place: Place, entry: &Entry) -> Option<&Entry>
     ensures { option_copied result ≡ if_at place (Some entry.now) }
 {
-    if is_at(place, entry.place) {
+    if entry.is_at(place) {
         Some(entry)
     } else {
         None
@@ -163,23 +162,17 @@ fn slot_then_in(
     if shadow.clashing(way, key) {
         None
     } else {
-        first_left(shadow, key, entry, to, &slots_of(layout, way, key))
+        first_free_after(shadow, entry, to, &slots_of(layout, way, key))
     }
 }
 
 // The first of these places that nobody holds with the entry at another place.
-fn first_left(
-    shadow: &Shadow,
-    key: Key,
-    entry: &Entry,
-    to: Place,
-    places: &[Place],
-) -> Option<Place>
-    requires { IsMover key entry.now shadow.now.entries }
+fn first_free_after(shadow: &Shadow, entry: &Entry, to: Place, places: &[Place]) -> Option<Place>
+    requires { entry_for entry.now.key shadow.now.entries ≡ Some entry.now }
     ensures { result ≡ find (is_free (with_moved entry.now.key to shadow.now.entries)) places.now }
 {
     for place in places {
-        if is_left(shadow, key, entry, to, *place) {
+        if is_free_after(shadow, entry, to, *place) {
             return Some(*place);
         }
     }
@@ -187,13 +180,12 @@ fn first_left(
 }
 
 // Whether nobody holds a place with the entry at another place.
-#[tactic(auto, using(crate::proofs::Moving::left_free))]
-fn is_left(shadow: &Shadow, key: Key, entry: &Entry, to: Place, place: Place) -> bool
-    requires { IsMover key entry.now shadow.now.entries }
+#[tactic(auto, using(crate::proofs::Moving::free_after))]
+fn is_free_after(shadow: &Shadow, entry: &Entry, to: Place, place: Place) -> bool
+    requires { entry_for entry.now.key shadow.now.entries ≡ Some entry.now }
     ensures { result ≡ is_free (with_moved entry.now.key to shadow.now.entries) place }
 {
     book_rules(shadow);
-    let _ = key;
     !place.same(to) && is_nobody_else(shadow.holder(place), entry.key)
 }
 
@@ -204,15 +196,5 @@ fn is_nobody_else(holder: Option<Key>, key: Key) -> bool
     match holder {
         None => true,
         Some(holder) => key.same(holder),
-    }
-}
-
-// Whether the place, if there is one, is this one.
-pub(crate) fn is_at(place: Place, held: Option<Place>) -> bool
-    ensures { result ≡ is_at place held }
-{
-    match held {
-        None => false,
-        Some(held) => place.same(held),
     }
 }

@@ -3,11 +3,11 @@
 ghost use Rattle.std.specs.Prelude.{◌≡◌, ◌≤◌, IfOk};
 ghost use Rattle.sr_base.specs.declared.place.Place.TheVariants.{Slot};
 ghost use Rattle.sr_shadow.specs.Book.{holder_of, is_clashing, is_registered, is_rival};
-ghost use Rattle.sr_shadow.specs.Entry.{fresh, holds};
+ghost use Rattle.sr_shadow.specs.Entry.{fresh};
 ghost use Rattle.sr_shadow.specs.Plan.{IsUnplaced, entry_at, first_plan, first_usable, is_clear_but, is_free, is_usable, key_slots, move_from, move_if_clear, move_plan, move_to, moved_if, row_plan, slot_plan, slots_of, target, with_key, with_moved};
 
 use crate::clear::is_mistaken_but;
-use crate::moves::{is_at, other_way};
+use crate::moves::other_way;
 use crate::rows::key_rows;
 use crate::slots::key_slots;
 use sr_base::{Key, Layout, Place, Version, layout_ranges};
@@ -132,17 +132,11 @@ fn holder(es: &[Entry], place: Place) -> Option<Key>
     ensures { result ≡ holder_of place es.now }
 {
     for entry in es {
-        if holds(place, entry) {
+        if entry.holds(place) {
             return Some(entry.key);
         }
     }
     None
-}
-
-fn holds(place: Place, entry: &Entry) -> bool
-    ensures { result ≡ holds place entry.now }
-{
-    is_at(place, entry.place) || is_at(place, entry.also)
 }
 
 // Whether another key outside the table of full keys clashes with this one in a way.
@@ -226,7 +220,7 @@ fn entry_at(es: &[Entry], place: Place) -> Option<Entry>
     ensures { result ≡ entry_at place es.now }
 {
     for entry in es {
-        if is_at(place, entry.place) {
+        if entry.is_at(place) {
             return Some(*entry);
         }
     }

@@ -1,5 +1,4 @@
-ghost use Rattle.std.specs.Prelude.{◌≡◌, true, None};
-ghost use Rattle.sr_shadow.specs.Book.{CanLeave, CanSettle, holder_of};
+ghost use Rattle.std.specs.Prelude.{◌≡◌, true};
 ghost use Rattle.sr_shadow.specs.Plan.{IsUnplaced};
 
 use sr_base::{Key, Layout, Place, Version};
@@ -49,14 +48,14 @@ impl Scene {
 
     // Puts a registered key into a place, where it may be.
     pub(crate) fn settle(&mut self, key: Key, place: Place) {
-        if may_settle(&self.book, key, place) {
+        if self.book.can_settle(key, place) {
             self.book.settle(key, place);
         }
     }
 
     // Lets a key leave the place that it had before.
     pub(crate) fn leave(&mut self, key: Key) {
-        if may_leave(&self.book, key) {
+        if self.book.can_leave(key) {
             self.book.leave(key);
         }
     }
@@ -101,25 +100,6 @@ fn may_plan(book: &Shadow, key: Key) -> bool
     match book.get(key) {
         Some(entry) => entry.place.is_none(),
         None => true,
-    }
-}
-
-fn may_settle(book: &Shadow, key: Key, place: Place) -> bool
-    ensures registered { result ≡ true → CanSettle key book.now.entries }
-    ensures free { result ≡ true → holder_of place book.now.entries ≡ None }
-{
-    match book.get(key) {
-        Some(entry) => entry.also.is_none() && book.holder(place).is_none(),
-        None => false,
-    }
-}
-
-fn may_leave(book: &Shadow, key: Key) -> bool
-    ensures { result ≡ true → CanLeave key book.now.entries }
-{
-    match book.get(key) {
-        Some(entry) => entry.also.is_some(),
-        None => false,
     }
 }
 

@@ -5,10 +5,10 @@ use Rattle.sr_base.specs.Key.{KeyView, IsKey}
 use Rattle.sr_base.specs.Layout.{LayoutView}
 use Rattle.sr_base.specs.declared.place.Place.{Place}
 use Rattle.sr_shadow.specs.Book.{Book, is_registered, holder_of, IsBook}
-use Rattle.sr_shadow.specs.Counts.{Counted}
+use Rattle.sr_shadow.specs.VersionCounts.{Counted}
 use Rattle.sr_shadow.specs.Entry.{holds, is_outside, stands_in, settled, left_other}
-use Rattle.sr_shadow.specs.Holders.{HeldBy}
-use Rattle.sr_shadow.specs.Numbers.{Numbered}
+use Rattle.sr_shadow.specs.Holders.{IsHolderTable}
+use Rattle.sr_shadow.specs.KeyNumbers.{Numbered}
 use Rattle.sr_shadow.specs.Rivals.{Tallied}
 use Rattle.sr_shadow.specs.Shadow.{IsShadow, HasRoom}
 use Rattle.sr_shadow.specs.declared.entry.Entry.{Entry}
@@ -69,7 +69,7 @@ shadow_same l front back e f taken numbers counts one two table own version at a
 -- one that has moved
 pub shadow_settled : (l : LayoutView) (front back : List Entry) (e : Entry) (place : Place) (taken : ℕ) (numbers : ℕ → Option ℕ) (counts : List ℕ) (one one2 two two2 : ℕ → Option Tally) (table table2 : List (Option KeyView))
     → e.also ≡ None → holder_of place (front ++ e ∷ back) ≡ None → Tallied l.shape 1 one2 (front ++ settled place e ∷ back) → Tallied l.shape 2 two2 (front ++ settled place e ∷ back)
-    → HeldBy l.shape table2 (front ++ settled place e ∷ back)
+    → IsHolderTable l.shape table2 (front ++ settled place e ∷ back)
     → IsShadow l (front ++ e ∷ back) taken numbers counts one two table → IsShadow l (front ++ settled place e ∷ back) taken numbers counts one2 two2 table2
 shadow_settled l front back e place taken numbers counts one one2 two two2 table table2 alone free f s held h = record {
   book = record {
@@ -88,7 +88,7 @@ shadow_settled l front back e place taken numbers counts one one2 two two2 table
 
 -- one that has left its other place
 pub shadow_left : (l : LayoutView) (front back : List Entry) (e : Entry) (taken : ℕ) (numbers : ℕ → Option ℕ) (counts : List ℕ) (one two : ℕ → Option Tally) (table table2 : List (Option KeyView))
-    → HeldBy l.shape table2 (front ++ left_other e ∷ back)
+    → IsHolderTable l.shape table2 (front ++ left_other e ∷ back)
     → IsShadow l (front ++ e ∷ back) taken numbers counts one two table → IsShadow l (front ++ left_other e ∷ back) taken numbers counts one two table2
 shadow_left l front back e taken numbers counts one two table table2 held h = record {
   book = record {
@@ -107,7 +107,7 @@ shadow_left l front back e taken numbers counts one two table table2 held h = re
 
 -- one less
 pub shadow_less : (l : LayoutView) (front back : List Entry) (e : Entry) (taken : ℕ) (numbers numbers2 : ℕ → Option ℕ) (counts counts2 : List ℕ) (one one2 two two2 : ℕ → Option Tally) (table table2 : List (Option KeyView))
-    → Numbered numbers2 (front ++ back) → Counted counts2 (front ++ back) → Tallied l.shape 1 one2 (front ++ back) → Tallied l.shape 2 two2 (front ++ back) → HeldBy l.shape table2 (front ++ back)
+    → Numbered numbers2 (front ++ back) → Counted counts2 (front ++ back) → Tallied l.shape 1 one2 (front ++ back) → Tallied l.shape 2 two2 (front ++ back) → IsHolderTable l.shape table2 (front ++ back)
     → IsShadow l (front ++ e ∷ back) taken numbers counts one two table → IsShadow l (front ++ back) taken numbers2 counts2 one2 two2 table2
 shadow_less l front back e taken numbers numbers2 counts counts2 one one2 two two2 table table2 n c f s held h = record {
   book = record {

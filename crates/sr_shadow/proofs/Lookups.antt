@@ -6,7 +6,7 @@ use Rattle.std.specs.Option.{option_or}
 use Rattle.sr_base.specs.Key.{KeyView, IsKey, packed, same_key}
 use Rattle.sr_shadow.specs.Book.{entry_for, is_registered}
 use Rattle.sr_shadow.specs.Entry.{is_of}
-use Rattle.sr_shadow.specs.Numbers.{Numbered}
+use Rattle.sr_shadow.specs.KeyNumbers.{Numbered}
 use Rattle.sr_shadow.specs.declared.entry.Entry.{Entry}
 use Rattle.sr_base.proofs.Sameness.{same_key-true, same_key-self, same_key-sym}
 use Rattle.sr_shadow.proofs.Splits.{entry_for_none}

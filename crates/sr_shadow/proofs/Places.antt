@@ -15,7 +15,7 @@ use Rattle.sr_base.specs.declared.word_name.WordName.{WordName}
 use Rattle.sr_base.specs.declared.word_name.WordName.TheVariants as word
 use Rattle.sr_shadow.specs.Book.{holder_of, HeldOnce}
 use Rattle.sr_shadow.specs.Entry.{holds, times_held, is_at, settled, left_other}
-use Rattle.sr_shadow.specs.Holders.{HeldBy, name_of}
+use Rattle.sr_shadow.specs.Holders.{IsHolderTable, name_of}
 use Rattle.sr_shadow.specs.declared.entry.Entry.{Entry}
 use Rattle.sr_base.proofs.Sameness.{same_place-true, same_place-self}
 
@@ -155,7 +155,7 @@ apart_places shape a b t = by (same_place a b) refl
 pub held_put : (shape : Shape) (place : Place) (v : Option KeyView) (table : List (Option KeyView)) (old new : List Entry)
     → ((a b : Place) → HasPlace shape a → HasPlace shape b → entry_number shape a ≡ entry_number shape b → a ≡ b)
     → HasPlace shape place → ((other : Place) → holder_of other new ≡ cond (same_place other place) v (holder_of other old))
-    → HeldBy shape table old → HeldBy shape (set table (entry_number shape place) v) new
+    → IsHolderTable shape table old → IsHolderTable shape (set table (entry_number shape place) v) new
 held_put shape place v table old new apart has step h = record { size = grind (arith, common_steps, h.size); told = told }
   where
     told : (other : Place) → HasPlace shape other → get_or (set table (entry_number shape place) v) (entry_number shape other) None ≡ holder_of other new
@@ -197,13 +197,13 @@ places_apart l apart (Row r) (Row s) ha hb same = ap place_in (apart (word.Full 
 -- a step of the table at a place of the layout, and at another
 pub put_inside : (l : LayoutView) (place : Place) (at : ℕ) (v : Option KeyView) (table : List (Option KeyView)) (old new : List Entry) → NamesApart l
     → HasPlace l.shape place → at ≡ entry_number l.shape place → ((other : Place) → holder_of other new ≡ cond (same_place other place) v (holder_of other old))
-    → HeldBy l.shape table old → HeldBy l.shape (set table at v) new
+    → IsHolderTable l.shape table old → IsHolderTable l.shape (set table at v) new
 put_inside l place at v table old new apart has is step h =
-    subst (λ n. HeldBy l.shape (set table n v) new) (sym is) (held_put l.shape place v table old new (places_apart l apart) has step h)
+    subst (λ n. IsHolderTable l.shape (set table n v) new) (sym is) (held_put l.shape place v table old new (places_apart l apart) has step h)
 
 pub put_outside : (shape : Shape) (place : Place) (v : Option KeyView) (table : List (Option KeyView)) (old new : List Entry)
     → ¬ (HasPlace shape place) → ((other : Place) → holder_of other new ≡ cond (same_place other place) v (holder_of other old))
-    → HeldBy shape table old → HeldBy shape table new
+    → IsHolderTable shape table old → IsHolderTable shape table new
 put_outside shape place v table old new hasnt step h = record { size = h.size; told = λ other is. h.told other is ∙ by other is (same_place other place) refl ∙ sym (step other) }
   where
     by : (other : Place) → HasPlace shape other → (b : Bool) → same_place other place ≡ b → holder_of other old ≡ cond (same_place other place) v (holder_of other old)
@@ -223,5 +223,5 @@ cell_found l (Row row) name at named has is =
     (own, one, omega (arith, one, number_below l.shape (Row row) own))
 
 -- lists with the same holders have one table
-pub held_alike : (shape : Shape) (table : List (Option KeyView)) (old new : List Entry) → ((other : Place) → holder_of other new ≡ holder_of other old) → HeldBy shape table old → HeldBy shape table new
+pub held_alike : (shape : Shape) (table : List (Option KeyView)) (old new : List Entry) → ((other : Place) → holder_of other new ≡ holder_of other old) → IsHolderTable shape table old → IsHolderTable shape table new
 held_alike shape table old new same h = record { size = h.size; told = λ place has. h.told place has ∙ sym (same place) }

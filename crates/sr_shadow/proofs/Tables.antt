@@ -3,7 +3,7 @@ use Rattle.std.proofs.Common.{◌≡◌, ℕ, ◌+◌, ◌-◌, ◌^◌, ◌<◌
 use Rattle.std.proofs.lemmas.Bool.Decides.{nat_tests}
 use Rattle.std.proofs.lemmas.List.Sums.{count_by-le-length}
 use Rattle.std.proofs.lemmas.Grind.{common_steps}
-use Rattle.sr_shadow.specs.Counts.{cell_of, Counted, FewCounted, HasCounted}
+use Rattle.sr_shadow.specs.VersionCounts.{cell_of, Counted, FewCounted, HasCounted}
 use Rattle.sr_shadow.specs.Entry.{has_version}
 use Rattle.sr_shadow.specs.declared.entry.Entry.{Entry}
 use Rattle.sr_shadow.proofs.Splits.{count_split, count_joined}

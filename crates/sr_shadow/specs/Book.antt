@@ -21,6 +21,7 @@ pub record Book : Type 0 where
 abbrev pub entry_for : KeyView → List Entry → Option Entry
 entry_for key entries = find (is_of key) entries
 
+-- some entry is the key's
 abbrev pub is_registered : KeyView → List Entry → Bool
 is_registered key entries = list_any (is_of key) entries
 
@@ -89,18 +90,23 @@ with_new key version book = record book {
   ready = ready_after key book.ready;
 }
 
+-- a Close was taken for the key
 abbrev pub with_closed : KeyView → Book → Book
 with_closed key book = record book { entries = with_changed closed key book.entries }
 
+-- the key is Live at the place
 abbrev pub with_settled : KeyView → Place → Book → Book
 with_settled key place book = record book { entries = with_changed (settled place) key book.entries }
 
+-- the key holds its Live place alone
 abbrev pub with_left : KeyView → Book → Book
 with_left key book = record book { entries = with_changed left_other key book.entries }
 
+-- a sweep went by the key's place, and found a hit there or found none
 abbrev pub with_swept : KeyView → Bool → Book → Book
 with_swept key hit book = record book { entries = with_changed (swept hit) key book.entries }
 
+-- the key's entry is out
 abbrev pub with_retired : KeyView → Book → Book
 with_retired key book = record book { entries = without_key key book.entries }
 

@@ -21,10 +21,11 @@ is_row (Some (Row row)) = true
 abbrev pub is_of : KeyView → Entry → Bool
 is_of key e = same_key key e.key
 
--- the key has no Live place, or has one
+-- the key has no Live place
 abbrev pub is_pending : Entry → Bool
 is_pending e = is_none e.place
 
+-- the key has a Live place
 abbrev pub is_placed : Entry → Bool
 is_placed e = is_some e.place
 
@@ -46,6 +47,7 @@ stands_in way e = is_slot_in way e.place
 abbrev pub holds : Place → Entry → Bool
 holds place e = is_at place e.place || is_at place e.also
 
+-- how many times the entry has this place: twice where it is both
 abbrev pub times_held : Place → Entry → ℕ
 times_held place e = cond (is_at place e.place) 1 0 + cond (is_at place e.also) 1 0
 
@@ -69,10 +71,11 @@ settled place e = record e { place = Some place; also = e.place; quiet = None }
 abbrev pub left_other : Entry → Entry
 left_other e = record e { also = None }
 
--- the quiet sweeps since the base after one more, which the place was hit before or wasn't
+-- the quiet sweeps in a row after one more, which the place was hit before or wasn't; the first one counts none
 abbrev pub quiet_after : Bool → Option ℕ → ℕ
 quiet_after hit None = 0
 quiet_after hit (Some n) = if hit then 0 else min 255 (n + 1)
 
+-- a sweep went by its place, which was hit before or wasn't
 abbrev pub swept : Bool → Entry → Entry
 swept hit e = record e { quiet = Some (quiet_after hit e.quiet) }

@@ -11,7 +11,7 @@ use Rattle.sr_shadow.specs.Book.{holder_of}
 use Rattle.sr_shadow.specs.declared.entry.Entry.{Entry}
 
 -- the table is that of the entries, for the places that the layout has
-pub record HeldBy (shape : Shape) (table : List (Option KeyView)) (es : List Entry) : Type 0 where
+pub record IsHolderTable (shape : Shape) (table : List (Option KeyView)) (es : List Entry) : Type 0 where
   pub size : length table ≡ entries_of shape
   pub told : (place : Place) → HasPlace shape place → slice_index_or table (entry_number shape place) None ≡ holder_of place es
 

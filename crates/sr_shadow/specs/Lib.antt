@@ -1,10 +1,11 @@
 pub mod Book
-pub mod Counts
 pub mod Entry
 pub mod Holders
-pub mod Numbers
+pub mod Index
+pub mod KeyNumbers
 pub mod Plan
 pub mod Rivals
 pub mod Roll
 pub mod Shadow
 pub mod Taking
+pub mod VersionCounts

@@ -23,17 +23,19 @@ use Rattle.sr_shadow.specs.declared.plan.Plan.TheVariants as plan
 abbrev pub slots_in : ℕ → ℕ → List Place
 slots_in way bucket = Slot way bucket 0 ∷ Slot way bucket 1 ∷ Slot way bucket 2 ∷ Slot way bucket 3 ∷ []
 
--- those of the key's bucket of this way, and of both
+-- those of the key's bucket of this way
 abbrev pub slots_of : Shape → ℕ → KeyView → List Place
 slots_of shape way key = slots_in way (bucket_of way key shape.buckets)
 
+-- those of both its buckets, way 1 first
 abbrev pub key_slots : Shape → KeyView → List Place
 key_slots shape key = slots_of shape 1 key ++ slots_of shape 2 key
 
--- the four rows of the key's group
+-- four rows, from the first on
 abbrev pub rows_from : ℕ → List ℕ
 rows_from first = first ∷ (first + 1) ∷ (first + 2) ∷ (first + 3) ∷ []
 
+-- the four rows of the key's group
 abbrev pub key_rows : Shape → KeyView → List ℕ
 key_rows shape key = rows_from (4 * group_of key shape.full_rows)
 
@@ -67,17 +69,20 @@ is_mistaken shape key e = not (is_of key e) && clashes_at shape key e.key e.plac
 abbrev pub is_mistaken_but : Shape → KeyView → KeyView → Entry → Bool
 is_mistaken_but shape key other e = not (is_of other e) && is_mistaken shape key e
 
--- the key is clear: its packets are taken for those of no entry; or of none but the other key's
+-- the key is clear: its packets are taken for those of no entry
 abbrev pub is_clear : Shape → List Entry → KeyView → Bool
 is_clear shape es key = not (list_any (is_mistaken shape key) es)
 
+-- they are taken for those of no entry but, perhaps, the other key's
 abbrev pub is_clear_but : Shape → List Entry → KeyView → KeyView → Bool
 is_clear_but shape es key other = not (list_any (is_mistaken_but shape key other) es)
 
+-- the plan of a usable slot, if there is one and the key is clear
 abbrev pub slot_if_clear : Bool → Option Place → Option Plan
 slot_if_clear clear None = None
 slot_if_clear clear (Some place) = if clear then Some (plan.Slot place) else None
 
+-- the key's first usable slot, if the key is clear
 abbrev pub slot_plan : Shape → List Entry → KeyView → Option Plan
 slot_plan shape es key = slot_if_clear (is_clear shape es key) (first_usable shape es key (key_slots shape key))
 
@@ -103,9 +108,11 @@ target shape es key other way = first_usable shape (with_key key es) other (slot
 abbrev pub moved : Place → Entry → Entry
 moved to e = record e { place = Some to; also = None }
 
+-- the entry, moved where it is this key's
 abbrev pub moved_if : KeyView → Place → Entry → Entry
 moved_if other to e = if is_of other e then moved to e else e
 
+-- the entries with the key's moved
 abbrev pub with_moved : KeyView → Place → List Entry → List Entry
 with_moved other to es = with_changed (moved to) other es
 
@@ -113,10 +120,12 @@ with_moved other to es = with_changed (moved to) other es
 abbrev pub slot_then : Shape → List Entry → KeyView → KeyView → Place → Option Place
 slot_then shape es key other to = first_usable shape (with_moved other to es) key (key_slots shape key)
 
+-- the move, if there is a last slot and the key that is planned is clear but for the one that moves
 abbrev pub move_if_clear : Bool → KeyView → Place → Place → Option Place → Option Plan
 move_if_clear clear other from to None = None
 move_if_clear clear other from to (Some last) = if clear then Some (plan.Move other from to last) else None
 
+-- the move of this key's entry to a slot, if there is one
 abbrev pub move_to : Shape → List Entry → KeyView → KeyView → Place → Option Place → Option Plan
 move_to shape es key other from None = None
 move_to shape es key other from (Some to) = move_if_clear (is_clear_but shape es key other) other from to (slot_then shape es key other to)
@@ -126,6 +135,7 @@ move_to shape es key other from (Some to) = move_if_clear (is_clear_but shape es
 abbrev pub move_of : Shape → List Entry → KeyView → KeyView → ℕ → Place → Option Plan
 move_of shape es key other way from = move_to shape es key other from (target shape es key other (other_way way))
 
+-- the move of an entry, if there is one, from a slot of this way
 abbrev pub move_at : Shape → List Entry → KeyView → ℕ → Place → Option Entry → Option Plan
 move_at shape es key way from None = None
 move_at shape es key way from (Some e) = move_of shape es key e.key way from
@@ -140,6 +150,7 @@ abbrev pub first_move : Shape → List Entry → KeyView → List Place → Opti
 first_move shape es key [] = None
 first_move shape es key (slot ∷ slots) = option_or (move_from shape es key slot) (first_move shape es key slots)
 
+-- the move from the first of the key's slots from which there is one
 abbrev pub move_plan : Shape → List Entry → KeyView → Option Plan
 move_plan shape es key = first_move shape es key (key_slots shape key)
 
@@ -151,6 +162,7 @@ row_plan shape es key = option_map plan.FullKey (find (λ row. is_free es (Row r
 
 -- ---- the plan
 
+-- a slot; where there is none a move; where there is none a row; else there is no room
 unfoldable pub first_plan : Shape → List Entry → KeyView → Plan
 first_plan shape es key = unwrap_or (option_or (slot_plan shape es key) (option_or (move_plan shape es key) (row_plan shape es key))) plan.NoRoom
 
@@ -160,10 +172,11 @@ IsUnplaced key es = IfSome (entry_for key es) (λ e. e.place ≡ None)
 
 -- ---- what a planned slot keeps
 
--- each registered key outside the full-key table is clear; or each but one
+-- each registered key outside the full-key table is clear
 abbrev pub AllClear : Shape → List Entry → Type 0
 AllClear shape es = (i : ℕ) (e : Entry) → slice_get es i ≡ Some e → is_outside e ≡ true → is_clear shape es e.key ≡ true
 
+-- each but this key is
 abbrev pub AllClearBut : KeyView → Shape → List Entry → Type 0
 AllClearBut key shape es = (i : ℕ) (e : Entry) → slice_get es i ≡ Some e → is_of key e ≡ false → is_outside e ≡ true → is_clear shape es e.key ≡ true
 

@@ -14,13 +14,15 @@ use Rattle.sr_shadow.specs.declared.tally.Tally.{Tally}
 abbrev pub class_of : Shape → ℕ → KeyView → ℕ
 class_of shape way key = (key.vip * 65536 + bucket_of way key shape.buckets) * 65536 + digest_of way key shape.digest_bits
 
--- its keys, and those outside the full-key table
+-- the entry's key is in the key's class
 abbrev pub is_member : Shape → ℕ → KeyView → Entry → Bool
 is_member shape way key e = clashes shape way key e.key
 
+-- and it is outside the full-key table
 abbrev pub is_outsider : Shape → ℕ → KeyView → Entry → Bool
 is_outsider shape way key e = is_outside e && clashes shape way key e.key
 
+-- the numbers of a class without a registered key
 abbrev pub no_tally : Tally
 no_tally = record { members = 0; outside = 0; standing = 0 }
 

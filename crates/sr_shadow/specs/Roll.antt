@@ -2,7 +2,7 @@
 use Rattle.std.specs.Prelude.{◌≡◌, ℕ, ◌+◌, ◌≤◌, min, Bool, false, List, [], ◌∷◌, ◌++◌, option_to_list, map, filter, filter_map, take, is_some, Option, None, Some, slice_get, option_and_then}
 use Rattle.sr_shadow.specs.Entry.{is_pending, is_placed}
 use Rattle.sr_shadow.specs.declared.entry.Entry.{Entry}
-use Rattle.sr_shadow.specs.declared.standing.Standing.{Standing}
+use Rattle.sr_shadow.specs.declared.slot_marks.SlotMarks.{SlotMarks}
 
 -- the entries that are still in
 abbrev pub entries_in : List (ℕ × Option Entry) → List Entry
@@ -37,18 +37,18 @@ Rising low [] high = low ≤ high
 Rising low (s ∷ slots) high = (low ≤ s.0) × HasNumber s.0 s.1 × Rising (s.0 + 1) slots high
 
 -- marks of the slots whose entries are in, in without a Live place, in with one
-pub record Stands (ins waiting standing : List Bool) (slots : List (ℕ × Option Entry)) : Type 0 where
-  pub live : ins ≡ map (λ s. is_some s.1) slots
+pub record AreMarks (ins waiting live : List Bool) (slots : List (ℕ × Option Entry)) : Type 0 where
+  pub filled : ins ≡ map (λ s. is_some s.1) slots
   pub pending : waiting ≡ map (λ s. passes is_pending s.1) slots
-  pub placed : standing ≡ map (λ s. passes is_placed s.1) slots
+  pub placed : live ≡ map (λ s. passes is_placed s.1) slots
 
--- the marks of a `Standing` are those of the slots
-abbrev pub StandsFor : Standing → List (ℕ × Option Entry) → Type 0
-StandsFor s slots = Stands s.live.marks s.pending.marks s.placed.marks slots
+-- these marks are those of the slots
+abbrev pub Marked : SlotMarks → List (ℕ × Option Entry) → Type 0
+Marked s slots = AreMarks s.filled.marks s.pending.marks s.placed.marks slots
 
 -- it takes one more slot without memory
-abbrev pub standing_room : Standing → ℕ
-standing_room s = min s.live.room (min s.pending.room s.placed.room)
+abbrev pub marks_room : SlotMarks → ℕ
+marks_room s = min s.filled.room (min s.pending.room s.placed.room)
 
 -- the roll: the entries in, how many were ever taken, how many more go in without memory
 pub record RollView : Type 0 where
@@ -57,9 +57,9 @@ pub record RollView : Type 0 where
   pub room : ℕ
 
 -- what holds of a roll's parts
-pub record IsRoll (slots : List (ℕ × Option Entry)) (standing : Standing) (taken : ℕ) : Type 0 where
+pub record IsRoll (slots : List (ℕ × Option Entry)) (marks : SlotMarks) (taken : ℕ) : Type 0 where
   pub rising : Rising 0 slots taken
-  pub stands : StandsFor standing slots
+  pub marked : Marked marks slots
 
 -- an entry of this number is in
 abbrev pub HasEntry : List Entry → ℕ → Type 0

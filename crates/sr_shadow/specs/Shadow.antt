@@ -3,9 +3,9 @@ use Rattle.std.specs.Prelude.{◌≡◌, ℕ, ◌<◌, List, Option, Some, Match
 use Rattle.sr_base.specs.Key.{KeyView}
 use Rattle.sr_base.specs.Layout.{LayoutView}
 use Rattle.sr_shadow.specs.Book.{entry_for, IsBook}
-use Rattle.sr_shadow.specs.Counts.{Counted}
-use Rattle.sr_shadow.specs.Holders.{HeldBy}
-use Rattle.sr_shadow.specs.Numbers.{Numbered}
+use Rattle.sr_shadow.specs.VersionCounts.{Counted}
+use Rattle.sr_shadow.specs.Holders.{IsHolderTable}
+use Rattle.sr_shadow.specs.KeyNumbers.{Numbered}
 use Rattle.sr_shadow.specs.Rivals.{Tallied}
 use Rattle.sr_shadow.specs.declared.entry.Entry.{Entry}
 use Rattle.sr_shadow.specs.declared.tally.Tally.{Tally}
@@ -17,7 +17,7 @@ pub record IsShadow (layout : LayoutView) (es : List Entry) (taken : ℕ) (numbe
   pub counted : Counted counts es
   pub first : Tallied layout.shape 1 one es
   pub second : Tallied layout.shape 2 two es
-  pub held : HeldBy layout.shape table es
+  pub held : IsHolderTable layout.shape table es
 
 -- where room was made for a key each index has some
 abbrev pub HasRoom : Option KeyView → ℕ → ℕ → ℕ → ℕ → Type 0

@@ -18,19 +18,29 @@ pub struct Entry {
     pub taken: u64,
     /// Whether a Close was taken for the key.
     pub closed: bool,
-    /// How many sweeps in a row since the base found no hit, 255 for more. None before the base.
+    /// How many sweeps in a row found no hit at its place, 255 for more. The first sweep after it was settled sets this to 0, whatever it finds;
+    /// None before that one.
     pub quiet: Option<u8>,
 }
 
-// Whether the entry holds the place.
-pub(crate) fn holds(entry: &Entry, place: Place) -> bool
-    ensures { result ≡ holds place entry.now }
-{
-    is_at(entry.place, place) || is_at(entry.also, place)
+impl Entry {
+    /// Whether this is the place at which the key is Live.
+    pub fn is_at(&self, place: Place) -> bool
+        ensures { result ≡ is_at place self.now.place }
+    {
+        is_place(self.place, place)
+    }
+
+    /// Whether the entry holds the place, as the Live one or as the one that it is about to leave.
+    pub fn holds(&self, place: Place) -> bool
+        ensures { result ≡ holds place self.now }
+    {
+        self.is_at(place) || is_place(self.also, place)
+    }
 }
 
 // Whether a place, if there is one, is this one.
-fn is_at(held: Option<Place>, place: Place) -> bool
+fn is_place(held: Option<Place>, place: Place) -> bool
     ensures { result ≡ is_at place held }
 {
     match held {
@@ -59,7 +69,7 @@ pub(crate) fn standing(way: u8, entry: &Entry) -> u64
     }
 }
 
-// The quiet sweeps since the base after one more, which found a hit or found none.
+// The quiet sweeps in a row after one more, which found a hit or found none; the first one counts none.
 pub(crate) fn quiet_after(hit: bool, quiet: Option<u8>) -> u8
     ensures { result ≡ quiet_after hit quiet }
 {

@@ -4,7 +4,7 @@ ghost use Rattle.sr_base.specs.WordName.{HasPlace, entries_of, entry_number};
 ghost use Rattle.sr_base.specs.declared.place.Place.{Place as APlace};
 ghost use Rattle.sr_shadow.specs.Book.{holder_of, HeldOnce};
 ghost use Rattle.sr_shadow.specs.Entry.{is_at, settled, left_other};
-ghost use Rattle.sr_shadow.specs.Holders.{HeldBy, name_of};
+ghost use Rattle.sr_shadow.specs.Holders.{IsHolderTable, name_of};
 ghost use Rattle.sr_shadow.specs.declared.entry.Entry.{Entry as AnEntry};
 
 use crate::Entry;
@@ -20,7 +20,7 @@ pub(crate) struct Holders {
 impl Holders {
     // Nobody holds a place.
     pub(crate) fn new(alloc: Global, layout: &Layout) -> Result<Holders, AllocError>
-        ensures { IfOk result (λ h. HeldBy layout.now.shape h.table.items []) }
+        ensures { IfOk result (λ h. IsHolderTable layout.now.shape h.table.items []) }
     {
         layout_ranges(layout);
         let shape = layout.shape();
@@ -41,7 +41,9 @@ impl Holders {
     // The entry moves to a place that nobody held.
     pub(crate) fn settle(&mut self, layout: &Layout, entry: &Entry, place: Place)
         requires { length self.old.table.items ≡ entries_of layout.now.shape }
-        ensures { (front back : List AnEntry) → HeldOnce (front ++ entry.now ∷ back) → entry.now.also ≡ None → holder_of place (front ++ entry.now ∷ back) ≡ None → HeldBy layout.now.shape self.old.table.items (front ++ entry.now ∷ back) → HeldBy layout.now.shape self.new.table.items (front ++ settled place entry.now ∷ back) }
+        ensures { (front back : List AnEntry) → HeldOnce (front ++ entry.now ∷ back) → entry.now.also ≡ None → holder_of place (front ++ entry.now ∷ back) ≡ None
+            → IsHolderTable layout.now.shape self.old.table.items (front ++ entry.now ∷ back)
+            → IsHolderTable layout.now.shape self.new.table.items (front ++ settled place entry.now ∷ back) }
     {
         self.put(layout, place, Some(entry.key));
     }
@@ -49,7 +51,9 @@ impl Holders {
     // The entry gives up the place that it had before.
     pub(crate) fn leave(&mut self, layout: &Layout, entry: &Entry)
         requires { length self.old.table.items ≡ entries_of layout.now.shape }
-        ensures left { (front back : List AnEntry) → HeldOnce (front ++ entry.now ∷ back) → HeldBy layout.now.shape self.old.table.items (front ++ entry.now ∷ back) → HeldBy layout.now.shape self.new.table.items (front ++ left_other entry.now ∷ back) }
+        ensures left { (front back : List AnEntry) → HeldOnce (front ++ entry.now ∷ back)
+            → IsHolderTable layout.now.shape self.old.table.items (front ++ entry.now ∷ back)
+            → IsHolderTable layout.now.shape self.new.table.items (front ++ left_other entry.now ∷ back) }
         ensures size { length self.new.table.items ≡ length self.old.table.items }
     {
         self.vacate(layout, entry.also);
@@ -58,7 +62,9 @@ impl Holders {
     // The entry goes, and holds no place any more.
     pub(crate) fn free(&mut self, layout: &Layout, entry: &Entry)
         requires { length self.old.table.items ≡ entries_of layout.now.shape }
-        ensures { (front back : List AnEntry) → HeldOnce (front ++ entry.now ∷ back) → HeldBy layout.now.shape self.old.table.items (front ++ entry.now ∷ back) → HeldBy layout.now.shape self.new.table.items (front ++ back) }
+        ensures { (front back : List AnEntry) → HeldOnce (front ++ entry.now ∷ back)
+            → IsHolderTable layout.now.shape self.old.table.items (front ++ entry.now ∷ back)
+            → IsHolderTable layout.now.shape self.new.table.items (front ++ back) }
     {
         self.leave(layout, entry);
         self.depart(layout, entry);
@@ -67,7 +73,9 @@ impl Holders {
     // The entry, which has left its other place, goes from its Live place.
     fn depart(&mut self, layout: &Layout, entry: &Entry)
         requires { length self.old.table.items ≡ entries_of layout.now.shape }
-        ensures { (front back : List AnEntry) → HeldOnce (front ++ entry.now ∷ back) → HeldBy layout.now.shape self.old.table.items (front ++ left_other entry.now ∷ back) → HeldBy layout.now.shape self.new.table.items (front ++ back) }
+        ensures { (front back : List AnEntry) → HeldOnce (front ++ entry.now ∷ back)
+            → IsHolderTable layout.now.shape self.old.table.items (front ++ left_other entry.now ∷ back)
+            → IsHolderTable layout.now.shape self.new.table.items (front ++ back) }
     {
         self.vacate(layout, entry.place);
     }
@@ -76,7 +84,9 @@ impl Holders {
     #[tactic(auto, using(crate::proofs::Places::held_alike))]
     fn vacate(&mut self, layout: &Layout, place: Option<Place>)
         requires { length self.old.table.items ≡ entries_of layout.now.shape }
-        ensures held { (old new : List AnEntry) → ((other : APlace) → holder_of other new ≡ cond (is_at other place) None (holder_of other old)) → HeldBy layout.now.shape self.old.table.items old → HeldBy layout.now.shape self.new.table.items new }
+        ensures held { (old new : List AnEntry) → ((other : APlace) → holder_of other new ≡ cond (is_at other place) None (holder_of other old))
+            → IsHolderTable layout.now.shape self.old.table.items old
+            → IsHolderTable layout.now.shape self.new.table.items new }
         ensures size { length self.new.table.items ≡ length self.old.table.items }
     {
         match place {
@@ -88,7 +98,9 @@ impl Holders {
     // Somebody or nobody holds a place from now on, and all else stays.
     fn put(&mut self, layout: &Layout, place: Place, holder: Option<Key>)
         requires { length self.old.table.items ≡ entries_of layout.now.shape }
-        ensures held { (old new : List AnEntry) → ((other : APlace) → holder_of other new ≡ cond (same_place other place) holder (holder_of other old)) → HeldBy layout.now.shape self.old.table.items old → HeldBy layout.now.shape self.new.table.items new }
+        ensures held { (old new : List AnEntry) → ((other : APlace) → holder_of other new ≡ cond (same_place other place) holder (holder_of other old))
+            → IsHolderTable layout.now.shape self.old.table.items old
+            → IsHolderTable layout.now.shape self.new.table.items new }
         ensures size { length self.new.table.items ≡ length self.old.table.items }
     {
         words_stand_apart(layout);

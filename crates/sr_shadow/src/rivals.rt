@@ -1,9 +1,8 @@
-ghost use Rattle.std.specs.Prelude.{◌≡◌, ◌+◌, ◌-◌, ◌^◌, ◌<◌, ◌≤◌, ◌⊎◌, List, [], ◌∷◌, ◌++◌, ℕ, nat_eq, cond, OnOk};
+ghost use Rattle.std.specs.Prelude.{◌≡◌, ◌+◌, ◌<◌, ◌≤◌, [], ℕ, nat_eq, cond, OnOk};
 ghost use Rattle.indexmap.specs.IndexMap.{get, spare};
 ghost use Rattle.sr_base.specs.declared.shape.Shape.{Shape as AShape};
-ghost use Rattle.sr_shadow.specs.Entry.{is_outside};
+ghost use Rattle.sr_shadow.specs.Index.{KeptAs, KeptWith, KeptWithout};
 ghost use Rattle.sr_shadow.specs.Rivals.{class_of, tally_of, FewTallied, HasTallied, IsClassed, Tallied};
-ghost use Rattle.sr_shadow.specs.declared.entry.Entry.{Entry as AnEntry};
 
 use crate::Entry;
 use crate::entry::{outside, standing};
@@ -59,7 +58,7 @@ impl Rivals {
         requires way { (1 ≤ way) × (way ≤ 2) }
         requires room { 0 < spare self.old.map }
         requires few { FewTallied layout.now.shape way (get nat_eq self.old.map) }
-        ensures more { (es : List AnEntry) → Tallied layout.now.shape way (get nat_eq self.old.map) es → Tallied layout.now.shape way (get nat_eq self.new.map) (es ++ entry.now ∷ []) }
+        ensures more { KeptWith (Tallied layout.now.shape way) (get nat_eq self.old.map) (get nat_eq self.new.map) entry.now }
         ensures room { spare self.old.map ≤ spare self.new.map + 1 }
     {
         let class = class(layout, way, entry.key);
@@ -79,7 +78,7 @@ impl Rivals {
     pub(crate) fn drop_out(&mut self, layout: &Layout, way: u8, entry: &Entry)
         requires way { (1 ≤ way) × (way ≤ 2) }
         requires has { HasTallied layout.now.shape way (get nat_eq self.old.map) entry.now }
-        ensures less { (front back : List AnEntry) → Tallied layout.now.shape way (get nat_eq self.old.map) (front ++ entry.now ∷ back) → Tallied layout.now.shape way (get nat_eq self.new.map) (front ++ back) }
+        ensures less { KeptWithout (Tallied layout.now.shape way) (get nat_eq self.old.map) (get nat_eq self.new.map) entry.now }
         ensures room { spare self.old.map ≤ spare self.new.map }
     {
         let class = class(layout, way, entry.key);
@@ -98,7 +97,7 @@ impl Rivals {
         requires key { new.now.key ≡ old.now.key }
         requires has { HasTallied layout.now.shape way (get nat_eq self.old.map) old.now }
         requires few { FewTallied layout.now.shape way (get nat_eq self.old.map) }
-        ensures swapped { (front back : List AnEntry) → Tallied layout.now.shape way (get nat_eq self.old.map) (front ++ old.now ∷ back) → Tallied layout.now.shape way (get nat_eq self.new.map) (front ++ new.now ∷ back) }
+        ensures swapped { KeptAs (Tallied layout.now.shape way) (get nat_eq self.old.map) (get nat_eq self.new.map) old.now new.now }
         ensures room { spare self.old.map ≤ spare self.new.map }
     {
         if outside(old) == outside(new) && standing(way, old) == standing(way, new) {

@@ -1,11 +1,11 @@
 ghost use Rattle.std.specs.Prelude.{◌≡◌, ◌+◌, ◌^◌, ◌<◌, ◌≤◌, ◌&&◌, ◌∷◌, ◌++◌, ℕ, List, [], Option, Some, None, true, false, is_some, nat_le, nat_lt, find, filter, length, drop, slice_get, option_copied, min, IfOk, OnOk};
 ghost use Rattle.std.specs.List.Sorted.{IsPartitionPoint};
 ghost use Rattle.sr_shadow.specs.Entry.{is_pending, is_placed};
-ghost use Rattle.sr_shadow.specs.Roll.{entries_in, entry_at, HasEntry, HasNumber, Replaces, kept, Rising, StandsFor};
+ghost use Rattle.sr_shadow.specs.Roll.{entries_in, entry_at, HasEntry, HasNumber, Replaces, kept, Rising, Marked};
 ghost use Rattle.sr_shadow.specs.declared.entry.Entry.{Entry as AnEntry};
 
 use crate::Entry;
-use crate::standing::Standing;
+use crate::slot_marks::SlotMarks;
 use indexmap::IndexMap;
 use std::alloc::{AllocError, Global};
 use std::marker::Model;
@@ -17,20 +17,20 @@ type Slots = IndexMap<u64, Option<Entry>>;
 #[derive(Drop)]
 pub(crate) struct Roll {
     slots: Slots,
-    standing: Standing,
+    marks: SlotMarks,
     taken: u64,
 }
 
 impl Model for Roll {
     ghost use Rattle.std.specs.Prelude.{min};
     ghost use Rattle.indexmap.specs.IndexMap.{spare};
-    ghost use Rattle.sr_shadow.specs.Roll.{RollView, IsRoll, entries_in, standing_room};
+    ghost use Rattle.sr_shadow.specs.Roll.{RollView, IsRoll, entries_in, marks_room};
 
     ghost Value = { RollView };
 
-    ghost view = { λ r. record { entries = entries_in r.slots.entries; taken = r.taken; room = min (spare r.slots) (standing_room r.standing) } };
+    ghost view = { λ r. record { entries = entries_in r.slots.entries; taken = r.taken; room = min (spare r.slots) (marks_room r.marks) } };
 
-    ghost invariant = { λ r. IsRoll r.slots.entries r.standing r.taken };
+    ghost invariant = { λ r. IsRoll r.slots.entries r.marks r.taken };
 }
 
 impl Roll {
@@ -41,7 +41,7 @@ impl Roll {
     {
         Roll {
             slots: IndexMap::new(alloc),
-            standing: Standing::new(alloc),
+            marks: SlotMarks::new(alloc),
             taken: 0,
         }
     }
@@ -57,7 +57,7 @@ impl Roll {
     pub(crate) fn len(&self) -> usize
         ensures { result ≡ length self.now.entries }
     {
-        self.standing.count()
+        self.marks.count()
     }
 
     // Makes room for so many more entries. Where more than half of the slots are empty they are given up.
@@ -67,11 +67,11 @@ impl Roll {
         ensures kept { min additional self.old.room ≤ self.new.room }
         ensures room { OnOk result (additional ≤ self.new.room) }
     {
-        if self.slots.len() / 2 > self.standing.count() {
+        if self.slots.len() / 2 > self.marks.count() {
             self.compact(alloc, additional)?;
         }
         self.slots.reserve(additional)?;
-        self.standing.reserve(alloc, additional)
+        self.marks.reserve(alloc, additional)
     }
 
     // Gives up the empty slots. Of the room for entries so much stays as is asked for.
@@ -80,14 +80,14 @@ impl Roll {
         ensures taken { self.new.taken ≡ self.old.taken }
         ensures kept { min additional self.old.room ≤ self.new.room }
     {
-        let mut standing = standing_of(alloc, &self.slots)?;
-        standing.reserve(alloc, additional)?;
+        let mut marks = marks_of(alloc, &self.slots)?;
+        marks.reserve(alloc, additional)?;
         self.slots.retain(
             |_number: &u64, slot: &mut Option<Entry>| -> bool
                 ensures { (result ≡ is_some slot.old) × (slot.new ≡ slot.old) }
             { slot.is_some() },
         );
-        self.standing = standing;
+        self.marks = marks;
         Ok(())
     }
 
@@ -101,7 +101,7 @@ impl Roll {
         ensures room { self.old.room ≤ self.new.room + 1 }
     {
         let slot = Some(entry);
-        self.standing.push(&slot);
+        self.marks.push(&slot);
         match self.slots.insert(self.taken, slot) {
             Ok(_) => self.taken += 1,
             Err(_) => unreachable!(),
@@ -128,7 +128,7 @@ impl Roll {
     {
         match self.slots.get_index_of(&number) {
             Some(at) => {
-                self.standing.set(at, &slot);
+                self.marks.set(at, &slot);
                 self.slots[at] = slot;
             }
             None => unreachable!(),
@@ -139,7 +139,7 @@ impl Roll {
     pub(crate) fn at(&self, n: usize) -> Option<&Entry>
         ensures { option_copied result ≡ slice_get self.now.entries n }
     {
-        match self.standing.nth(n) {
+        match self.marks.nth(n) {
             Some(at) => entry_at(&self.slots, at),
             None => None,
         }
@@ -149,7 +149,7 @@ impl Roll {
     pub(crate) fn first_pending(&self, number: u64) -> Option<&Entry>
         ensures { option_copied result ≡ find (λ e. nat_le number e.taken && is_pending e) self.now.entries }
     {
-        match self.standing.next_pending(slot_from(&self.slots, number)) {
+        match self.marks.next_pending(slot_from(&self.slots, number)) {
             Some(at) => entry_at(&self.slots, at),
             None => None,
         }
@@ -159,7 +159,7 @@ impl Roll {
     pub(crate) fn first_placed(&self, number: u64) -> Option<&Entry>
         ensures { option_copied result ≡ find (λ e. nat_le number e.taken && is_placed e) self.now.entries }
     {
-        match self.standing.next_placed(slot_from(&self.slots, number)) {
+        match self.marks.next_placed(slot_from(&self.slots, number)) {
             Some(at) => entry_at(&self.slots, at),
             None => None,
         }
@@ -187,25 +187,25 @@ fn slot_from(slots: &Slots, number: u64) -> usize
     )
 }
 
-// The standing of the slots that have an entry.
-fn standing_of(alloc: Global, slots: &Slots) -> Result<Standing, AllocError>
-    ensures { IfOk result (λ s. StandsFor s (filter (λ s. is_some s.1) slots.now.entries)) }
+// The marks of the slots that have an entry.
+fn marks_of(alloc: Global, slots: &Slots) -> Result<SlotMarks, AllocError>
+    ensures { IfOk result (λ s. Marked s (filter (λ s. is_some s.1) slots.now.entries)) }
 {
-    let mut standing = Standing::new(alloc);
+    let mut marks = SlotMarks::new(alloc);
     for at in 0..slots.len() {
-        keep(alloc, slots, at, &mut standing)?;
+        keep(alloc, slots, at, &mut marks)?;
     }
-    Ok(standing)
+    Ok(marks)
 }
 
 // One slot more, where it has an entry.
-fn keep(alloc: Global, slots: &Slots, at: usize, standing: &mut Standing) -> Result<(), AllocError>
-    ensures { OnOk result (StandsFor standing.old (kept at slots.now.entries) → StandsFor standing.new (kept (at + 1) slots.now.entries)) }
+fn keep(alloc: Global, slots: &Slots, at: usize, marks: &mut SlotMarks) -> Result<(), AllocError>
+    ensures { OnOk result (Marked marks.old (kept at slots.now.entries) → Marked marks.new (kept (at + 1) slots.now.entries)) }
 {
     match entry_at(slots, at) {
         Some(entry) => {
-            standing.reserve(alloc, 1)?;
-            standing.push(&Some(*entry));
+            marks.reserve(alloc, 1)?;
+            marks.push(&Some(*entry));
             Ok(())
         }
         None => Ok(()),

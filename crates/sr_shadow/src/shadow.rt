@@ -1,30 +1,31 @@
-ghost use Rattle.std.specs.Prelude.{◌≡◌, ◌≢◌, ◌+◌, ◌^◌, ◌<◌, ◌≤◌, ◌∷◌, ◌++◌, List, length, slice_get, find, count_by, true, false, is_some, option_copied, option_to_list, Option, Some, None, IsOk, IfOk, OnOk, OnErr};
+ghost use Rattle.std.specs.Prelude.{◌≡◌, ◌≢◌, ◌↔◌, ◌+◌, ◌^◌, ◌<◌, ◌≤◌, ◌∷◌, ◌++◌, List, length, slice_get, find, count_by, true, false, is_some, option_copied, option_to_list, Option, Some, None, IsOk, IfOk, IsTrue, OnOk, OnErr};
 ghost use Rattle.sr_shadow.specs.Book.{entry_for, is_registered, is_ready, pending_from, placed_from, holder_of, count_of, is_clashing, standing_of, opened, reserved_for, with_changed, with_new, with_closed, with_settled, with_left, with_swept, with_retired, CanSettle, CanLeave, CanSweep, DistinctKeys, IsBook};
-ghost use Rattle.sr_shadow.specs.Entry.{fresh, holds, is_at, quiet_after};
+ghost use Rattle.sr_shadow.specs.Entry.{fresh, quiet_after};
 ghost use Rattle.sr_shadow.specs.Rivals.{is_outsider, own_outside};
 ghost use Rattle.sr_shadow.specs.Shadow.{CanNote};
 ghost use Rattle.sr_shadow.specs.Taking.{Takes};
 ghost use Rattle.sr_shadow.specs.declared.entry.Entry.{Entry as AnEntry};
 
-use crate::counts::Counts;
-use crate::entry::{holds, outside, quiet_after};
+use crate::entry::{outside, quiet_after};
 use crate::holders::{Holders, cell};
-use crate::numbers::Numbers;
+use crate::key_numbers::KeyNumbers;
 use crate::rivals::Rivals;
 use crate::roll::Roll;
+use crate::version_counts::VersionCounts;
 use crate::{Entry, Took};
 use sr_base::{Key, Layout, Place, Version, key_ranges, layout_ranges};
 use std::alloc::{AllocError, Global};
 use std::marker::Model;
 
-/// The controller's book: the entries of the registered keys in the order of taking. It takes memory in `new`, `reserve` and `take` alone, and
-/// every call takes at most logarithmic time; a `reserve`, and so a `take`, now and then more, as much as the retirements before it have earned.
+/// The controller's book: the entries of the registered keys in the order of taking. It takes memory in `new`, `reserve` and `take` alone.
+/// Every call takes logarithmic time, but for two: `holder` of a place that the layout doesn't have looks at each entry, and `reserve` and
+/// `take` now and then close gaps, which retirements have paid for.
 #[derive(Drop)]
 pub struct Shadow {
     layout: Layout,
     roll: Roll,
-    numbers: Numbers,
-    counts: Counts,
+    numbers: KeyNumbers,
+    counts: VersionCounts,
     first: Rivals,
     second: Rivals,
     holders: Holders,
@@ -50,12 +51,12 @@ impl Shadow {
     pub fn new(alloc: Global, layout: &Layout) -> Result<Shadow, AllocError>
         ensures { IfOk result (λ s. s ≡ opened layout.now) }
     {
-        let counts = Counts::new(alloc)?;
+        let counts = VersionCounts::new(alloc)?;
         let holders = Holders::new(alloc, layout)?;
         Ok(Shadow {
             layout: *layout,
             roll: Roll::new(alloc),
-            numbers: Numbers::new(alloc),
+            numbers: KeyNumbers::new(alloc),
             counts,
             first: Rivals::new(alloc),
             second: Rivals::new(alloc),
@@ -137,7 +138,7 @@ impl Shadow {
         requires { (1 ≤ way) × (way ≤ 2) }
         ensures { result ≡ is_clashing self.now.layout.shape way key self.now.entries }
     {
-        let own = outside_by_one(self.get(key));
+        let own = own_outside(self.get(key));
         self.outsiders(way, key) > own
     }
 
@@ -204,6 +205,16 @@ impl Shadow {
         }
     }
 
+    /// Whether `settle` may be called: the key is registered and about to leave no place, and nobody holds this one.
+    pub fn can_settle(&self, key: Key, place: Place) -> bool
+        ensures { IsTrue result ↔ (CanSettle key self.now.entries × (holder_of place self.now.entries ≡ None)) }
+    {
+        match self.get(key) {
+            Some(entry) => entry.also.is_none() && self.holder(place).is_none(),
+            None => false,
+        }
+    }
+
     /// The key is Live at the place. With a place already held, the old place goes to `also`.
     pub fn settle(&mut self, key: Key, place: Place)
         requires registered { CanSettle key self.old.entries }
@@ -219,6 +230,16 @@ impl Shadow {
         }
     }
 
+    /// Whether `leave` may be called: the key is about to leave a place.
+    pub fn can_leave(&self, key: Key) -> bool
+        ensures { IsTrue result ↔ CanLeave key self.now.entries }
+    {
+        match self.get(key) {
+            Some(entry) => entry.also.is_some(),
+            None => false,
+        }
+    }
+
     /// The key gives up the place that it had before.
     pub fn leave(&mut self, key: Key)
         requires { CanLeave key self.old.entries }
@@ -230,6 +251,16 @@ impl Shadow {
                 self.leave_place(key, &entry);
             }
             None => unreachable!(),
+        }
+    }
+
+    /// Whether `swept` may be called: the key has a Live place.
+    pub fn can_sweep(&self, key: Key) -> bool
+        ensures { IsTrue result ↔ CanSweep key self.now.entries }
+    {
+        match self.get(key) {
+            Some(entry) => entry.place.is_some(),
+            None => false,
         }
     }
 
@@ -427,7 +458,7 @@ fn new_entry(key: Key, version: Version, taken: u64) -> Entry
 }
 
 // 1 for an entry that isn't placed in a row of the full-key table, else 0.
-fn outside_by_one(entry: Option<&Entry>) -> u64
+fn own_outside(entry: Option<&Entry>) -> u64
     ensures { result ≡ own_outside (option_copied entry.entry) }
 {
     match entry {
@@ -442,7 +473,7 @@ fn holder_if(entry: Option<&Entry>, place: Place) -> Option<Key>
 {
     match entry {
         Some(entry) => {
-            if holds(entry, place) {
+            if entry.holds(place) {
                 Some(entry.key)
             } else {
                 None

@@ -1,6 +1,6 @@
 use Rattle.std.proofs.Common.{◌≡◌, ap, sym, subst, ◌∙◌, filter, is_some, rules}
 use Rattle.indexmap.proofs.CallerLemmas.{filter-RetainsPairs}
-use Rattle.sr_shadow.specs.Roll.{entries_in, Rising, StandsFor}
+use Rattle.sr_shadow.specs.Roll.{entries_in, Rising, Marked}
 use Rattle.sr_shadow.proofs.Slots.{filtered_entries, rising_filtered}
 use Rattle.sr_shadow.proofs.roll.Roll.compact.Goals as goal
 
@@ -9,10 +9,10 @@ invariant_of-self c =
     let kept : c.retain.new.self.entries ≡ filter (λ s. is_some s.1) c.self.inside.slots.entries = filter-RetainsPairs _ (λ s. is_some s.1) _ (λ k v b w g call. search rules) _ _ c.retain.ensures.filtered in
     record {
       rising = subst (λ ss. Rising 0 ss c.self.inside.taken) (sym kept) (rising_filtered 0 c.self.inside.taken c.self.inside.slots.entries c.self.invariant.rising);
-      stands = subst (λ ss. StandsFor c.reserve.new.self ss) (sym kept) (record {
-        live = c.reserve.ensures.live ∙ c.in_ok-standing.ensures.live;
-        pending = c.reserve.ensures.pending ∙ c.in_ok-standing.ensures.pending;
-        placed = c.reserve.ensures.placed ∙ c.in_ok-standing.ensures.placed;
+      marked = subst (λ ss. Marked c.reserve.new.self ss) (sym kept) (record {
+        filled = c.reserve.ensures.filled ∙ c.in_ok-marks.ensures.filled;
+        pending = c.reserve.ensures.pending ∙ c.in_ok-marks.ensures.pending;
+        placed = c.reserve.ensures.placed ∙ c.in_ok-marks.ensures.placed;
       });
     }
 

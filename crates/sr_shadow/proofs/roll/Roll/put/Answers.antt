@@ -1,5 +1,5 @@
 use Rattle.std.proofs.Common.{ap, sym, subst, ◌∙◌, is_some, true≢false}
-use Rattle.sr_shadow.specs.Roll.{StandsFor}
+use Rattle.sr_shadow.specs.Roll.{Marked}
 use Rattle.sr_shadow.proofs.Slots.{found_at, written}
 use Rattle.sr_shadow.proofs.roll.Roll.put.Goals as goal
 
@@ -10,7 +10,7 @@ invariant_of-self c =
     c.requires.number c.in-Some.ensures.index in
     record {
       rising = w.rising;
-      stands = subst (λ ss. StandsFor c.set.new.self ss) (sym w.new_is) (c.set.ensures.stands w.before w.after w.own c.args.number w.at_is (subst (λ ss. StandsFor c.self.inside.standing ss) w.slots_is c.self.invariant.stands));
+      marked = subst (λ ss. Marked c.set.new.self ss) (sym w.new_is) (c.set.ensures.marked w.before w.after w.own c.args.number w.at_is (subst (λ ss. Marked c.self.inside.marks ss) w.slots_is c.self.invariant.marked));
     }
 
 pub unreachable-requires : goal.unreachable-requires

@@ -12,5 +12,5 @@ returns c =
       clashing_counted c.args.self.now.layout.shape c.args.way c.args.key c.args.self.now.entries c.outsiders.ensures.distinct,
       c.outsiders.ensures.count,
       ap own_outside c.get.ensures,
-      c.outside_by_one-own.ensures,
+      c.own_outside-own.ensures,
     )

@@ -2,7 +2,7 @@ use Rattle.std.proofs.Common.{refl, ap, subst, sym, ◌∙◌, false, ◌≡◌,
 use Rattle.sr_base.specs.Key.{IsKey}
 use Rattle.sr_shadow.specs.Book.{is_registered}
 use Rattle.sr_shadow.specs.declared.entry.Entry.{Entry}
-use Rattle.sr_shadow.proofs.Keeping.{few_entries, shadow_more, shadow_conv, room_kept, room_left}
+use Rattle.sr_shadow.proofs.Keeping.{few_entries, shadow_more, room_kept, room_left}
 use Rattle.sr_shadow.proofs.shadow.Shadow.enter_beside.Goals as goal
 
 pub invariant_of-self : goal.invariant_of-self

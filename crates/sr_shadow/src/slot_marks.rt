@@ -1,6 +1,6 @@
 ghost use Rattle.std.specs.Prelude.{◌≡◌, ◌+◌, ◌<◌, ◌≤◌, ◌∷◌, ◌++◌, ℕ, List, [], Option, find, length, drop, slice_get, OnOk};
 ghost use Rattle.sr_shadow.specs.Entry.{is_pending, is_placed};
-ghost use Rattle.sr_shadow.specs.Roll.{entries_in, entry_found, passes, standing_room, StandsFor};
+ghost use Rattle.sr_shadow.specs.Roll.{entries_in, entry_found, passes, marks_room, Marked};
 ghost use Rattle.sr_shadow.specs.declared.entry.Entry.{Entry as AnEntry};
 
 use crate::Entry;
@@ -9,19 +9,19 @@ use std::alloc::{AllocError, Global};
 
 // Which slots have an entry, one without a Live place, one with a Live place.
 #[derive(Drop)]
-pub(crate) struct Standing {
-    pub(crate) live: Marks,
+pub(crate) struct SlotMarks {
+    pub(crate) filled: Marks,
     pub(crate) pending: Marks,
     pub(crate) placed: Marks,
 }
 
-impl Standing {
+impl SlotMarks {
     // Of no slot.
-    pub(crate) fn new(alloc: Global) -> Standing
-        ensures { StandsFor result [] }
+    pub(crate) fn new(alloc: Global) -> SlotMarks
+        ensures { Marked result [] }
     {
-        Standing {
-            live: Marks::new(alloc),
+        SlotMarks {
+            filled: Marks::new(alloc),
             pending: Marks::new(alloc),
             placed: Marks::new(alloc),
         }
@@ -29,63 +29,65 @@ impl Standing {
 
     // Makes room for so many more slots.
     pub(crate) fn reserve(&mut self, alloc: Global, additional: usize) -> Result<(), AllocError>
-        ensures live { self.new.live.marks ≡ self.old.live.marks }
+        ensures filled { self.new.filled.marks ≡ self.old.filled.marks }
         ensures pending { self.new.pending.marks ≡ self.old.pending.marks }
         ensures placed { self.new.placed.marks ≡ self.old.placed.marks }
-        ensures more { standing_room self.old ≤ standing_room self.new }
-        ensures room { OnOk result (additional ≤ standing_room self.new) }
+        ensures more { marks_room self.old ≤ marks_room self.new }
+        ensures room { OnOk result (additional ≤ marks_room self.new) }
     {
-        self.live.reserve(alloc, additional)?;
+        self.filled.reserve(alloc, additional)?;
         self.pending.reserve(alloc, additional)?;
         self.placed.reserve(alloc, additional)
     }
 
     // One slot more.
     pub(crate) fn push(&mut self, slot: &Option<Entry>)
-        requires { 0 < standing_room self.old }
-        ensures stands { (slots : List (ℕ × Option AnEntry)) (number : ℕ) → StandsFor self.old slots → StandsFor self.new (slots ++ (number, slot.now) ∷ []) }
-        ensures room { standing_room self.old ≤ standing_room self.new + 1 }
+        requires { 0 < marks_room self.old }
+        ensures marked { (slots : List (ℕ × Option AnEntry)) (number : ℕ) → Marked self.old slots → Marked self.new (slots ++ (number, slot.now) ∷ []) }
+        ensures room { marks_room self.old ≤ marks_room self.new + 1 }
     {
-        self.live.push(slot.is_some());
+        self.filled.push(slot.is_some());
         self.pending.push(is_pending(slot));
         self.placed.push(is_placed(slot));
     }
 
     // Something else in a slot.
     pub(crate) fn set(&mut self, at: usize, slot: &Option<Entry>)
-        requires { (slots : List (ℕ × Option AnEntry)) × StandsFor self.old slots × (at < length slots) }
-        ensures stands { (before after : List (ℕ × Option AnEntry)) (s : ℕ × Option AnEntry) (number : ℕ) → at ≡ length before → StandsFor self.old (before ++ s ∷ after) → StandsFor self.new (before ++ (number, slot.now) ∷ after) }
-        ensures room { standing_room self.new ≡ standing_room self.old }
+        requires { (slots : List (ℕ × Option AnEntry)) × Marked self.old slots × (at < length slots) }
+        ensures marked { (before after : List (ℕ × Option AnEntry)) (s : ℕ × Option AnEntry) (number : ℕ) → at ≡ length before
+            → Marked self.old (before ++ s ∷ after)
+            → Marked self.new (before ++ (number, slot.now) ∷ after) }
+        ensures room { marks_room self.new ≡ marks_room self.old }
     {
-        self.live.set(at, slot.is_some());
+        self.filled.set(at, slot.is_some());
         self.pending.set(at, is_pending(slot));
         self.placed.set(at, is_placed(slot));
     }
 
     // How many slots have an entry.
     pub(crate) fn count(&self) -> usize
-        ensures { (slots : List (ℕ × Option AnEntry)) → StandsFor self.now slots → result ≡ length (entries_in slots) }
+        ensures { (slots : List (ℕ × Option AnEntry)) → Marked self.now slots → result ≡ length (entries_in slots) }
     {
-        self.live.count()
+        self.filled.count()
     }
 
     // Where the n-th entry is, from 0.
     pub(crate) fn nth(&self, n: usize) -> Option<usize>
-        ensures { (slots : List (ℕ × Option AnEntry)) → StandsFor self.now slots → slice_get (entries_in slots) n ≡ entry_found result slots }
+        ensures { (slots : List (ℕ × Option AnEntry)) → Marked self.now slots → slice_get (entries_in slots) n ≡ entry_found result slots }
     {
-        self.live.nth(n)
+        self.filled.nth(n)
     }
 
     // Where the first entry without a Live place is, from a slot on.
     pub(crate) fn next_pending(&self, from: usize) -> Option<usize>
-        ensures { (slots : List (ℕ × Option AnEntry)) → StandsFor self.now slots → find is_pending (entries_in (drop from slots)) ≡ entry_found result slots }
+        ensures { (slots : List (ℕ × Option AnEntry)) → Marked self.now slots → find is_pending (entries_in (drop from slots)) ≡ entry_found result slots }
     {
         self.pending.next(from)
     }
 
     // Where the first entry with a Live place is, from a slot on.
     pub(crate) fn next_placed(&self, from: usize) -> Option<usize>
-        ensures { (slots : List (ℕ × Option AnEntry)) → StandsFor self.now slots → find is_placed (entries_in (drop from slots)) ≡ entry_found result slots }
+        ensures { (slots : List (ℕ × Option AnEntry)) → Marked self.now slots → find is_placed (entries_in (drop from slots)) ≡ entry_found result slots }
     {
         self.placed.next(from)
     }

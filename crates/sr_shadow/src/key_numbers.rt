@@ -2,7 +2,7 @@ ghost use Rattle.std.specs.Prelude.{◌≡◌, ◌+◌, ◌<◌, ◌≤◌, List
 ghost use Rattle.indexmap.specs.IndexMap.{get, spare};
 ghost use Rattle.sr_base.specs.Key.{packed};
 ghost use Rattle.sr_shadow.specs.Book.{is_registered};
-ghost use Rattle.sr_shadow.specs.Numbers.{Numbered};
+ghost use Rattle.sr_shadow.specs.KeyNumbers.{Numbered};
 ghost use Rattle.sr_shadow.specs.declared.entry.Entry.{Entry as AnEntry};
 
 use indexmap::IndexMap;
@@ -11,16 +11,16 @@ use std::alloc::{AllocError, Global};
 
 // From a key to the number of its entry.
 #[derive(Drop)]
-pub(crate) struct Numbers {
+pub(crate) struct KeyNumbers {
     map: IndexMap<u64, u64>,
 }
 
-impl Numbers {
+impl KeyNumbers {
     // Of no entry.
-    pub(crate) fn new(alloc: Global) -> Numbers
+    pub(crate) fn new(alloc: Global) -> KeyNumbers
         ensures { Numbered (get nat_eq result.map) [] }
     {
-        Numbers {
+        KeyNumbers {
             map: IndexMap::new(alloc),
         }
     }
@@ -44,7 +44,9 @@ impl Numbers {
     // One entry more.
     pub(crate) fn join(&mut self, key: Key, number: u64)
         requires { 0 < spare self.old.map }
-        ensures more { (es : List AnEntry) (e : AnEntry) → e.key ≡ key → e.taken ≡ number → is_registered key es ≡ false → Numbered (get nat_eq self.old.map) es → Numbered (get nat_eq self.new.map) (es ++ e ∷ []) }
+        ensures more { (es : List AnEntry) (e : AnEntry) → e.key ≡ key → e.taken ≡ number → is_registered key es ≡ false
+            → Numbered (get nat_eq self.old.map) es
+            → Numbered (get nat_eq self.new.map) (es ++ e ∷ []) }
         ensures room { spare self.old.map ≤ spare self.new.map + 1 }
     {
         key_ranges(key);
@@ -56,7 +58,9 @@ impl Numbers {
 
     // The key's entry less.
     pub(crate) fn drop_out(&mut self, key: Key)
-        ensures less { (front back : List AnEntry) (e : AnEntry) → e.key ≡ key → is_registered key front ≡ false → is_registered key back ≡ false → Numbered (get nat_eq self.old.map) (front ++ e ∷ back) → Numbered (get nat_eq self.new.map) (front ++ back) }
+        ensures less { (front back : List AnEntry) (e : AnEntry) → e.key ≡ key → is_registered key front ≡ false → is_registered key back ≡ false
+            → Numbered (get nat_eq self.old.map) (front ++ e ∷ back)
+            → Numbered (get nat_eq self.new.map) (front ++ back) }
         ensures room { spare self.old.map ≤ spare self.new.map }
     {
         key_ranges(key);

@@ -1,7 +1,7 @@
 use Rattle.std.proofs.Common.{arith}
 use Rattle.std.proofs.lemmas.Grind.{common_steps}
 use Rattle.sr_shadow.proofs.Tables.{counted_few}
-use Rattle.sr_shadow.proofs.counts.Counts.join.Goals as goal
+use Rattle.sr_shadow.proofs.version_counts.VersionCounts.join.Goals as goal
 
 pub overflow_add-index_mut : goal.overflow_add-index_mut
 overflow_add-index_mut c =

@@ -1,6 +1,7 @@
-ghost use Rattle.std.specs.Prelude.{◌≡◌, ◌+◌, ◌-◌, ◌^◌, ◌<◌, ◌≤◌, List, [], ◌∷◌, ◌++◌, slice_index_or, slice_set, length, IfOk};
+ghost use Rattle.std.specs.Prelude.{◌≡◌, ◌<◌, List, [], IfOk};
 ghost use Rattle.sr_shadow.specs.Book.{count_of};
-ghost use Rattle.sr_shadow.specs.Counts.{cell_of, Counted, FewCounted, HasCounted};
+ghost use Rattle.sr_shadow.specs.Index.{KeptWith, KeptWithout};
+ghost use Rattle.sr_shadow.specs.VersionCounts.{cell_of, Counted, FewCounted, HasCounted};
 ghost use Rattle.sr_shadow.specs.declared.entry.Entry.{Entry as AnEntry};
 
 use crate::Entry;
@@ -10,11 +11,11 @@ use std::marker::Model;
 
 // How many registered keys have a virtual address and a version.
 #[derive(Drop)]
-pub(crate) struct Counts {
+pub(crate) struct VersionCounts {
     table: Vec<u64>,
 }
 
-impl Model for Counts {
+impl Model for VersionCounts {
     ghost use Rattle.std.specs.Prelude.{◌≡◌, ℕ, List, length};
 
     ghost Value = { List ℕ };
@@ -24,12 +25,12 @@ impl Model for Counts {
     ghost invariant = { λ c. length c.table.items ≡ 1024 };
 }
 
-impl Counts {
+impl VersionCounts {
     // Of no entry.
-    pub(crate) fn new(alloc: Global) -> Result<Counts, AllocError>
+    pub(crate) fn new(alloc: Global) -> Result<VersionCounts, AllocError>
         ensures { IfOk result (λ c. Counted c []) }
     {
-        Ok(Counts {
+        Ok(VersionCounts {
             table: vec![in alloc; 0; 1024]?,
         })
     }
@@ -46,7 +47,7 @@ impl Counts {
     #[tactic(auto, using(crate::proofs::Tables::counted_more, crate::proofs::Tables::counted_few))]
     pub(crate) fn join(&mut self, entry: &Entry)
         requires { FewCounted self.old }
-        ensures { (es : List AnEntry) → Counted self.old es → Counted self.new (es ++ entry.now ∷ []) }
+        ensures { KeptWith Counted self.old self.new entry.now }
     {
         let at = cell(entry);
         self.table[at] += 1;
@@ -56,7 +57,7 @@ impl Counts {
     #[tactic(auto, using(crate::proofs::Tables::counted_less, crate::proofs::Tables::counted_one))]
     pub(crate) fn drop_out(&mut self, entry: &Entry)
         requires { HasCounted self.old entry.now }
-        ensures { (front back : List AnEntry) → Counted self.old (front ++ entry.now ∷ back) → Counted self.new (front ++ back) }
+        ensures { KeptWithout Counted self.old self.new entry.now }
     {
         let at = cell(entry);
         self.table[at] -= 1;

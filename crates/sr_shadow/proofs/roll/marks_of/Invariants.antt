@@ -1,0 +1,5 @@
+use Rattle.sr_shadow.specs.Roll.{kept, Marked}
+use Rattle.sr_shadow.proofs.roll.marks_of.Given as goal
+
+abbrev pub invariant-loop-at : goal.invariant-loop-at
+invariant-loop-at l = Marked l.marks (kept l.at l.slots.entries)
