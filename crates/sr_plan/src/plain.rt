@@ -305,17 +305,14 @@ fn is_registered(es: &[Entry], key: Key) -> bool
 fn fresh(key: Key) -> Entry
     ensures { result ≡ fresh key 0 0 }
 {
-    match Version::new(0) {
-        Some(version) => Entry {
-            key,
-            version,
-            place: None,
-            also: None,
-            taken: 0,
-            closed: false,
-            quiet: None,
-        },
-        None => unreachable!(),
+    Entry {
+        key,
+        version: Version::zero(),
+        place: None,
+        also: None,
+        taken: 0,
+        closed: false,
+        quiet: None,
     }
 }
 

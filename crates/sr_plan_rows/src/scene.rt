@@ -41,7 +41,7 @@ impl Scene {
     // Registers a key.
     pub(crate) fn take(&mut self, alloc: Global, key: Key) -> Result<(), AllocError> {
         if self.book.taken() < 1 << 56 {
-            self.book.take(alloc, key, first_version())?;
+            self.book.take(alloc, key, Version::zero())?;
         }
         Ok(())
     }
@@ -100,12 +100,5 @@ fn may_plan(book: &Shadow, key: Key) -> bool
     match book.get(key) {
         Some(entry) => entry.place.is_none(),
         None => true,
-    }
-}
-
-fn first_version() -> Version {
-    match Version::new(0) {
-        Some(version) => version,
-        None => unreachable!(),
     }
 }
