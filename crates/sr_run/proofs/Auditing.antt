@@ -1,7 +1,6 @@
 -- What each status of the command `audit` says, put together from its parts.
-use Rattle.std.proofs.Common.{◌≡◌, ℕ, ◌≤◌, ◌<◌, List, [], length, Option, Some, None, Ok, Err, sym, subst, inl, inr}
+use Rattle.std.proofs.Common.{◌≡◌, ℕ, ◌≤◌, List, length, Option, Some, None, Ok, Err, sym, subst, inl, inr}
 use Rattle.sr_frame.specs.declared.skip.Skip.{Skip}
-use Rattle.sr_io.specs.Sink.{Adds}
 use Rattle.sr_io.specs.Shelf.{Fetches as ShelfFetches}
 use Rattle.sr_io.specs.declared.shelf.FetchRefusal.TheVariants.{TooLong}
 use Rattle.sr_law.specs.declared.line.Line.{Line}

@@ -1,5 +1,5 @@
 -- From what was read and printed to what a run answers.
-use Rattle.std.proofs.Common.{◌≡◌, ℕ, List, drop, Option, Some, Ok, Err, refl, sym, ap, ◌∙◌, subst}
+use Rattle.std.proofs.Common.{◌≡◌, ℕ, List, drop, Option, Some, Ok, Err, sym, ap, ◌∙◌, subst}
 use Rattle.sr_io.specs.Sink.{Adds, AddsFront}
 use Rattle.sr_io.proofs.Adding.{adds_nothing}
 use Rattle.sr_pcap.specs.declared.begin_refusal.BeginRefusal.{BeginRefusal}

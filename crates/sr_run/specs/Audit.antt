@@ -1,5 +1,5 @@
 -- What the command `audit` does: it judges a log by a script.
-use Rattle.std.specs.Prelude.{◌≡◌, ◌⊎◌, ◌≤◌, ◌+◌, ℕ, List, [], ◌∷◌, ◌++◌, length, codes, Option, Some, None}
+use Rattle.std.specs.Prelude.{◌≡◌, ◌⊎◌, ◌≤◌, ◌+◌, ℕ, List, [], ◌∷◌, ◌++◌, length, codes, Option, Some}
 use Rattle.std.specs.Fmt.{decimal}
 use Rattle.sr_frame.specs.declared.skip.Skip.{Skip}
 use Rattle.sr_io.specs.Sink.{Adds, AddsFront}

@@ -1,4 +1,4 @@
-use Rattle.std.proofs.Common.{◌≡◌, ◌+◌, ◌≤◌, length, Some, ap, subst, sym, ◌∙◌, arith, rules}
+use Rattle.std.proofs.Common.{◌≡◌, ◌+◌, ◌≤◌, length, ap, ◌∙◌, arith}
 use Rattle.sr_base.specs.Limit.{limit_of}
 use Rattle.sr_law.specs.Pools.{pools_from}
 use Rattle.sr_run.proofs.AuditedLines.{fits_pools, refusal_within}

@@ -1,7 +1,6 @@
-use Rattle.std.proofs.Common.{◌≡◌, ℕ, ◌≤◌, List, [], ◌∷◌, ◌++◌, length, arith, refl, subst, sym}
+use Rattle.std.proofs.Common.{[], ◌∷◌, arith, subst, sym}
 use Rattle.sr_io.proofs.Adding.{adds_front_more, puts_then}
 use Rattle.sr_io.specs.Sink.{Puts, AddsFront}
-use Rattle.sr_run.specs.Status.{path_words}
 use Rattle.sr_run.proofs.PrintedLines.{path_some}
 use Rattle.sr_run.proofs.status.path_text.Goals as goal
 
