@@ -13,8 +13,8 @@ use sr_io::{Source, Window};
 use std::alloc::Global;
 use std::marker::Model;
 
-// How many bytes a reader has room for: more than two records have, since the last one stays while the next is read.
-const ROOM: usize = 1_048_576;
+// How many bytes a reader has room for: two of the longest records, since the last one stays while the next is read.
+const ROOM: usize = 524_320;
 
 /// Reads a capture, a record at a time. The source is handed to each call, and must be the same one each time. It is read ahead.
 #[derive(Debug, Drop)]
@@ -36,7 +36,7 @@ impl Model for Reader {
     ghost view = { λ r. record {
         format = r.format; offset = r.offset; bytes = drop (length r.window.used - r.size) r.window.used; window = r.window; ended = r.ended } };
 
-    ghost invariant = { λ r. (r.size ≤ length r.window.used) × (length r.window.used ≤ 262160) × (r.window.room ≡ 1048576) };
+    ghost invariant = { λ r. (r.size ≤ length r.window.used) × (length r.window.used ≤ 262160) × (r.window.room ≡ 524320) };
 }
 
 impl Reader {
