@@ -1,0 +1,11 @@
+/// What a version number of a virtual address stands for. (SilkRoad, SIGCOMM 2017: an update gives the new pool a version number of its own, and a
+/// number is used again once no connection has it.)
+#[derive(Clone, Copy, Debug, PartialEq, Eq)]
+pub enum NumberState {
+    /// For no pool: it was never given, or was released.
+    Free,
+    /// For a pool that new connections may get. In an update the number that is replaced is Current as well, up to its end.
+    Current,
+    /// For a pool that no new connection gets, and that registered ones may still have.
+    Draining,
+}
