@@ -1,5 +1,5 @@
 -- What the worked rows are played with: a small layout, some packets, and a way to write a course of events.
-use Rattle.std.proofs.Common.{ℕ, ◌+◌, ◌==◌, zero, suc, Bool, true, false, List, [], ◌∷◌, option_and_then, slice_get, Option, Some, None, map, reverse, replicate, if◌then◌else◌}
+use Rattle.std.proofs.Common.{ℕ, ◌+◌, ◌==◌, zero, suc, Bool, true, false, List, [], ◌∷◌, option_and_then, option_map, slice_get, Option, Some, None, map, reverse, replicate, if◌then◌else◌}
 use Rattle.sr_base.specs.Key.{KeyView}
 use Rattle.sr_base.specs.Layout.{LayoutView}
 use Rattle.sr_base.specs.declared.change.Change.{Change}
@@ -13,6 +13,10 @@ use Rattle.sr_law.specs.declared.line.Line.{Line}
 use Rattle.sr_machine.specs.Config.{Config}
 use Rattle.sr_machine.specs.Core.{Core, opening, step_event, lines_of}
 use Rattle.sr_machine.specs.Pipe.{is_idle}
+use Rattle.sr_machine.specs.Settling.{settled_in}
+use Rattle.sr_machine.specs.Turning.{turned}
+use Rattle.sr_machine.specs.declared.settled.Settled.{Settled}
+use Rattle.sr_machine.specs.declared.turn.Turn.{Turn}
 use Rattle.sr_machine.specs.declared.actor.Actor.TheVariants as actor
 use Rattle.sr_machine.specs.declared.event.Event.{Event}
 use Rattle.sr_machine.specs.declared.event.Event.TheVariants as event
@@ -59,6 +63,10 @@ pub data Scenery : Type 0 where
   Ends : ℕ → Scenery
   -- the controller makes so many steps
   Controls : ℕ → Scenery
+  -- so many turns
+  Turns : ℕ → Scenery
+  -- turns until nothing is left
+  Settles : Scenery
   Tells : ℕ → Scenery
   Refuses : Scenery
 
@@ -73,12 +81,22 @@ abbrev pub ended_in : ℕ → ℕ → Core → Option Core
 ended_in p zero s = None
 ended_in p (suc n) s = elim (idle_at p s) [ true ↦ Some s | false ↦ option_and_then (ended_in p n) (step_event (event.Step (actor.Pipe p)) s) ]
 
+abbrev pub turns_of : ℕ → Core → Option Core
+turns_of zero s = Some s
+turns_of (suc n) s = option_and_then (λ p. turns_of n p.1) (turned s)
+
+abbrev pub answers_of : ℕ → Core → Option (List Turn)
+answers_of zero s = Some []
+answers_of (suc n) s = option_and_then (λ p. option_map (λ rest. p.0 ∷ rest) (answers_of n p.1)) (turned s)
+
 abbrev pub play : Scenery → Core → Option Core
 play (Handles p packet) s = option_and_then (ended_in p 26) (step_event (event.Enter p packet) s)
 play (Comes p packet) s = step_event (event.Enter p packet) s
 play (Pipes p n) s = steps_of (event.Step (actor.Pipe p)) n s
 play (Ends p) s = ended_in p 26 s
 play (Controls n) s = steps_of (event.Step actor.Controller) n s
+play (Turns n) s = turns_of n s
+play Settles s = option_map (λ p. p.1) (settled_in 200 s)
 play (Tells ms) s = step_event (event.Due ms) s
 play Refuses s = step_event event.Refuse s
 
@@ -89,3 +107,11 @@ played (x ∷ xs) s = option_and_then (played xs) (play x s)
 -- the lines after a course of events
 abbrev pub lines_after : Config → List Scenery → Option (List Line)
 lines_after k course = elim (played course (opening k)) [ None ↦ None | Some s ↦ Some (lines_of s) ]
+
+-- what so many turns answer after it
+abbrev pub answers_after : Config → List Scenery → ℕ → Option (List Turn)
+answers_after k course n = option_and_then (answers_of n) (played course (opening k))
+
+-- how the turns after it end
+abbrev pub ending_after : Config → List Scenery → Option Settled
+ending_after k course = option_map (λ p. p.0) (option_and_then (settled_in 200) (played course (opening k)))

@@ -11,6 +11,7 @@ pub mod Opening
 pub mod Ops
 pub mod Pipe
 pub mod Reads
+pub mod Settling
 pub mod Stages
 pub mod Starting
 pub mod Stores

@@ -8,6 +8,7 @@ use Rattle.sr_base.specs.declared.vip_word.Phase.TheVariants.{Steady, Recording,
 use Rattle.sr_machine.specs.Config.{Config}
 use Rattle.sr_machine.specs.Controller.{begun_after, controller_op}
 use Rattle.sr_machine.specs.Core.{Core, made}
+use Rattle.sr_machine.specs.Ops.{op_answer, op_name}
 use Rattle.sr_machine.specs.Starting.{begun}
 use Rattle.sr_machine.specs.Telling.{full_change, may_refuse}
 use Rattle.sr_machine.specs.Waiting.{has_next, is_under_way, is_wait_done}
@@ -116,3 +117,30 @@ turn_from k c (x ∷ xs) = ends_with (begun_after k c x) (turn_at k c c.job x) x
 -- the same of any controller
 abbrev pub turn_by : Config → ControllerView → List ℕ → Option (Turn × ControllerView)
 turn_by k c answers = turn_from k (begun k c) answers
+
+-- ---- a turn of the whole machine
+
+-- the step was made, and ends the turn or doesn't
+abbrev pub over_or : Core → Option Turn → Option (Turn × Core) → Option (Turn × Core)
+over_or s (Some t) rest = Some (t, s)
+over_or s None rest = rest
+
+-- the state after the controller's step
+abbrev pub controlled : Core → Op → Core
+controlled s o = made s actor.Controller (OfController s.controller) o
+
+-- what the step ends
+abbrev pub turn_of_op : Core → Op → Option Turn
+turn_of_op s o = let c = begun s.config s.controller in turn_at s.config c c.job (op_answer o (s.words (op_name o)))
+
+-- a turn of so many steps at most: what it answers, and the state then
+abbrev pub turned_in : ℕ → Core → Option (Turn × Core)
+turned_in zero s = None
+turned_in (suc n) s = option_and_then (λ o. over_or (controlled s o) (turn_of_op s o) (turned_in n (controlled s o))) (controller_op s.config s.controller)
+
+-- the most steps that a turn makes
+abbrev pub most_steps : LayoutView → ℕ
+most_steps l = max 4 l.shape.pipes
+
+abbrev pub turned : Core → Option (Turn × Core)
+turned s = turned_in (most_steps s.config.layout) s
