@@ -1,2 +1,5 @@
-mod Scenes
+mod Following
+mod PacketSteps
 mod Rows
+mod Scenes
+mod TurnSteps

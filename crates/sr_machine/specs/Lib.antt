@@ -1,9 +1,12 @@
+pub mod Begins
 pub mod Book
+pub mod Bounds
 pub mod Config
 pub mod Controller
 pub mod Core
 pub mod Deciding
 pub mod Draws
+pub mod Goes
 pub mod Jobs
 pub mod Names
 pub mod Numbers

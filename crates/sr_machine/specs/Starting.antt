@@ -45,8 +45,12 @@ with_job c j = record { gives = c.gives; outages = c.outages; refusing = c.refus
 
 -- ---- a refusal
 
+-- the first change of a pool is dropped, and refused
+abbrev pub refusal_start : ControllerView → PoolChange → List PoolChange → Start
+refusal_start c g rest = record (with_job c (Draw (draw.Refused g.position))) { gives = rest; refusing = false }
+
 abbrev pub refusal_of : ControllerView → Bool → List PoolChange → Option Start
-refusal_of c true (g ∷ rest) = Some (record (with_job c (Draw (draw.Refused g.position))) { gives = rest; refusing = false })
+refusal_of c true (g ∷ rest) = Some (refusal_start c g rest)
 refusal_of c refusing gives = None
 
 abbrev pub refusal_act : ControllerView → Option Start
@@ -54,10 +58,13 @@ refusal_act c = refusal_of c c.refusing c.gives
 
 -- ---- a server is taken down
 
+-- the first server that is still to be taken down is
+abbrev pub outage_start : ControllerView → Outage → List Outage → Start
+outage_start c o rest = record (with_job c (Draw (draw.TakenDown o.server))) { outages = rest }
+
 abbrev pub outage_of : ControllerView → List Outage → Option Start
 outage_of c [] = None
-outage_of c (o ∷ rest) =
-    if is_due c.clock o.at_ms then Some (record (with_job c (Draw (draw.TakenDown o.server))) { outages = rest }) else None
+outage_of c (o ∷ rest) = if is_due c.clock o.at_ms then Some (outage_start c o rest) else None
 
 abbrev pub outage_act : ControllerView → Option Start
 outage_act c = outage_of c c.outages
