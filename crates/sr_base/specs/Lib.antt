@@ -1,4 +1,5 @@
 pub mod Fields
+pub mod Fitting
 pub mod FullWord
 pub mod Key
 pub mod Layout
