@@ -5,7 +5,7 @@ use Rattle.sr_base.specs.declared.place.Place.{Place}
 use Rattle.sr_base.specs.declared.vip_word.Phase.TheVariants.{Recording}
 use Rattle.sr_base.specs.declared.vip_word.VipWord.{VipWord}
 use Rattle.sr_law.specs.declared.line.Line.{Line}
-use Rattle.sr_machine.specs.Book.{with_left, with_retired, with_settled, with_swept, with_taken}
+use Rattle.sr_shadow.specs.Book.{with_left, with_retired, with_settled, with_swept, with_taken}
 use Rattle.sr_machine.specs.Config.{Config}
 use Rattle.sr_machine.specs.Deciding.{is_withdrawn, ring_count, version_for, with_given}
 use Rattle.sr_machine.specs.Draws.{draw_job, draw_line, sweeping, with_line}
@@ -15,7 +15,7 @@ use Rattle.sr_machine.specs.Stages.{ring_cell}
 use Rattle.sr_machine.specs.Stores.{is_last_filter, phase_word, store_job, store_name, store_value}
 use Rattle.sr_machine.specs.Taking.{ended_by, taking}
 use Rattle.sr_machine.specs.Waiting.{drain_job, is_wait_done, look_job, pass_job}
-use Rattle.sr_machine.specs.declared.book.Book.{Book}
+use Rattle.sr_shadow.specs.declared.book.Book.{Book}
 use Rattle.sr_machine.specs.declared.controller_view.ControllerView.{ControllerView}
 use Rattle.sr_machine.specs.declared.draw.Draw.TheVariants as draw
 use Rattle.sr_machine.specs.declared.held_opener.HeldOpener.{HeldOpener}

@@ -1,5 +1,5 @@
 pub mod Begins
-pub mod Book
+pub mod Boards
 pub mod Bounds
 pub mod Config
 pub mod Controller

@@ -1,6 +1,7 @@
-use crate::{Book, HeldOpener, Job, NumberState, Outage, PoolChange, RingCount, Update};
+use crate::{HeldOpener, Job, NumberState, Outage, PoolChange, RingCount, Update};
 use sr_base::VipWord;
 use sr_law::Line;
+use sr_shadow::Book;
 use std::collections::LinkedList;
 
 /// What the controller knows.

@@ -3,7 +3,7 @@
 
 mod act;
 mod actor;
-mod book;
+mod board;
 mod controller_view;
 mod draw;
 mod event;
@@ -16,6 +16,7 @@ mod name;
 mod number_state;
 mod op;
 mod outage;
+mod performing;
 mod pipe_view;
 mod pool_change;
 mod put;
@@ -34,7 +35,7 @@ mod why;
 
 pub use act::Act;
 pub use actor::Actor;
-pub use book::Book;
+pub use board::Board;
 pub use controller_view::ControllerView;
 pub use draw::Draw;
 pub use event::Event;
@@ -47,6 +48,7 @@ pub use name::Name;
 pub use number_state::NumberState;
 pub use op::Op;
 pub use outage::Outage;
+pub use performing::perform;
 pub use pipe_view::PipeView;
 pub use pool_change::PoolChange;
 pub use put::{Aim, Put};

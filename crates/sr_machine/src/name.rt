@@ -1,4 +1,7 @@
-use sr_base::Place;
+ghost use Rattle.std.specs.Prelude.{◌≡◌};
+ghost use Rattle.sr_machine.specs.Names.{word_name};
+
+use sr_base::{Place, WordName};
 
 /// The name of a shared word, as the definitions of the steps have it: the words of slots and rows are one kind, that of an entry.
 #[derive(Clone, Copy)]
@@ -58,4 +61,35 @@ pub enum Name {
         /// Which word of the filter, from 0.
         index: u32,
     },
+}
+
+impl Name {
+    /// The name by which a layout places the word.
+    pub fn word(self) -> WordName
+        ensures { result ≡ word_name self }
+    {
+        match self {
+            Name::Tick => WordName::Tick,
+            Name::Note { pipe } => WordName::Note { pipe },
+            Name::Ring { pipe, cell } => WordName::Ring { pipe, cell },
+            Name::Entry { place } => match place {
+                Place::Slot { way, bucket, cell } => WordName::Slot { way, bucket, cell },
+                Place::Row { row } => WordName::Full { row },
+            },
+            Name::Hit { place } => WordName::Hit { place },
+            Name::Vip { vip } => WordName::Vip { vip },
+            Name::Head { vip, version } => WordName::Head { vip, version },
+            Name::Member {
+                vip,
+                version,
+                index,
+            } => WordName::Member {
+                vip,
+                version,
+                index,
+            },
+            Name::Down { server } => WordName::Down { server },
+            Name::Filter { index } => WordName::Filter { index },
+        }
+    }
 }
