@@ -1,5 +1,7 @@
-mod Following
+pub mod Following
+pub mod Kept
 mod PacketSteps
 mod Rows
 mod Scenes
 mod TurnSteps
+pub mod Words

@@ -8,6 +8,7 @@ pub mod Deciding
 pub mod Draws
 pub mod Goes
 pub mod Jobs
+pub mod Keeping
 pub mod Names
 pub mod Numbers
 pub mod Opening
