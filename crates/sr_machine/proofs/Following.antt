@@ -9,16 +9,15 @@ use Rattle.sr_base.specs.declared.vip_word.Phase.TheVariants.{Steady, Recording,
 use Rattle.sr_shadow.specs.Book.{entry_for, placed_from}
 use Rattle.sr_shadow.specs.Entry.{is_pending, is_placed}
 use Rattle.sr_base.specs.Key.{KeyView}
-use Rattle.sr_shadow.specs.Plan.{first_plan}
 use Rattle.sr_shadow.specs.declared.entry.Entry.{Entry}
-use Rattle.sr_machine.specs.Begins.{Begins, NoAct, refuses, takes_down, holds, finishes, changes, answers, places_held, has_no_place, places, retires, sweeps, releases, looks}
+use Rattle.sr_machine.specs.Begins.{Begins, refuses, takes_down, holds, finishes, changes, answers, places_held, has_no_place, places, retires, sweeps, releases, looks}
 use Rattle.sr_machine.specs.Config.{Config}
 use Rattle.sr_machine.specs.Deciding.{dead_reply, is_due, is_withdrawn, vip_at}
-use Rattle.sr_machine.specs.Draws.{draw_job, hit_job, sweep_job, sweeping}
-use Rattle.sr_machine.specs.Goes.{Goes, SweepsTo, stays_free, waits, refused, taken_down, given, comes, reserved, placed, cleared, retired, answered, sweep_begins, sweep_empty, swept, downed, member_next, member_last, head, phase_stored, filter_next, filter_last, reserve_stored, judged_live, judged_withdrawn, emptied, pass_stays, pass_next, pass_last, drain_stays, drain_next, drain_last, look_next, look_last, look_took, hit_next, hit_last}
+use Rattle.sr_machine.specs.Draws.{hit_job, sweep_job}
+use Rattle.sr_machine.specs.Goes.{Goes, stays_free, waits, refused, taken_down, given, comes, reserved, placed, cleared, retired, answered, sweep_begins, sweep_empty, swept, downed, member_next, member_last, head, phase_stored, filter_next, filter_last, reserve_stored, judged_live, judged_withdrawn, emptied, pass_stays, pass_next, pass_last, drain_stays, drain_next, drain_last, look_next, look_last, look_took, hit_next, hit_last}
 use Rattle.sr_machine.specs.Jobs.{book_next, job_next}
 use Rattle.sr_machine.specs.Numbers.{first_drained, least_free}
-use Rattle.sr_machine.specs.Starting.{Start, change_of, first_act, first_put, going_on, opener_act, opener_job, opener_of, outage_act, outage_of, outage_start, refusal_start, pending_act, pending_put, planned_put, refusal_act, refusal_of, release_act, retire_act, retirement, sweep_act, sweep_of, update_act, update_of, update_to, beginning, with_job, may_retire}
+use Rattle.sr_machine.specs.Starting.{Start, change_of, first_act, first_put, going_on, opener_act, opener_job, opener_of, outage_act, outage_of, outage_start, pending_act, planned_put, refusal_act, refusal_of, release_act, retire_act, retirement, sweep_act, sweep_of, update_act, update_of, update_to, beginning, with_job, may_retire}
 use Rattle.sr_machine.specs.Stores.{is_last_filter, is_last_member, judged_draw}
 use Rattle.sr_machine.specs.Waits.{first_before_finish, first_before_hold}
 use Rattle.sr_machine.specs.Waiting.{all_passed, has_next, is_ring_done, is_under_way, waited_job}
@@ -63,8 +62,8 @@ module _ (k : Config) (c : ControllerView) (x : ℕ) where
       at (Some place) n = sweep_begins ms e place (record { found = q; stands = n })
 
   sweep_on : (from ms : ℕ) (key : KeyView) (place : Place) (taken : ℕ) (next : Option Entry)
-    → placed_from (taken + 1) (book_next k c (Hit from ms key place taken) x).entries ≡ next
-    → Goes k c x (Hit from ms key place taken) (sweep_job from ms next)
+      → placed_from (taken + 1) (book_next k c (Hit from ms key place taken) x).entries ≡ next
+      → Goes k c x (Hit from ms key place taken) (sweep_job from ms next)
   sweep_on from ms key place taken None q = hit_last from ms key place taken q
   sweep_on from ms key place taken (Some e) q = at e.place refl
     where
@@ -73,34 +72,34 @@ module _ (k : Config) (c : ControllerView) (x : ℕ) where
       at (Some stands) n = hit_next from ms key place taken e stands (record { found = q; stands = n })
 
   member_goes : (u : Update) (index : ℕ) (b : Bool) → is_last_member k u index ≡ b
-    → Goes k c x (Store (store.Member u index)) (Store (if b then store.Head u else store.Member u (index + 1)))
+      → Goes k c x (Store (store.Member u index)) (Store (if b then store.Head u else store.Member u (index + 1)))
   member_goes u index true q = member_last u index q
   member_goes u index false q = member_next u index q
 
   filter_goes : (u : Update) (index : ℕ) (b : Bool) → is_last_filter k.layout index ≡ b
-    → Goes k c x (Store (store.Filter u index)) (if b then Free else Store (store.Filter u (index + 1)))
+      → Goes k c x (Store (store.Filter u index)) (if b then Free else Store (store.Filter u (index + 1)))
   filter_goes u index true q = filter_last u index q
   filter_goes u index false q = filter_next u index q
 
   judge_goes : (p : Put) (b : Bool) → is_withdrawn k c p ≡ b
-    → Goes k c x (Store (store.Judge p)) (Draw (judged_draw b p (dead_reply k c p.aim)))
+      → Goes k c x (Store (store.Judge p)) (Draw (judged_draw b p (dead_reply k c p.aim)))
   judge_goes p true q = judged_withdrawn p q
   judge_goes p false q = judged_live p q
 
   pass_goes : (g pipe : ℕ) (w : Wait) (a b : Bool) → is_under_way g x ≡ a → has_next k.layout pipe ≡ b
-    → Goes k c x (Pass g pipe w) (if a then Pass g pipe w else (if b then Pass g (pipe + 1) w else all_passed w))
+      → Goes k c x (Pass g pipe w) (if a then Pass g pipe w else (if b then Pass g (pipe + 1) w else all_passed w))
   pass_goes g pipe w true b q r = pass_stays g pipe w q
   pass_goes g pipe w false true q r = pass_next g pipe w q r
   pass_goes g pipe w false false q r = pass_last g pipe w q r
 
   drain_goes : (pipe count : ℕ) (w : Wait) (a b : Bool) → is_ring_done k.layout count x ≡ a → has_next k.layout pipe ≡ b
-    → Goes k c x (Drain pipe count w) (if a then (if b then Drain (pipe + 1) 0 w else waited_job c.vips (book_next k c (Drain pipe count w) x).entries w) else Drain pipe (count + 1) w)
+      → Goes k c x (Drain pipe count w) (if a then (if b then Drain (pipe + 1) 0 w else waited_job c.vips (book_next k c (Drain pipe count w) x).entries w) else Drain pipe (count + 1) w)
   drain_goes pipe count w false b q r = drain_stays pipe count w q
   drain_goes pipe count w true true q r = drain_next pipe count w q r
   drain_goes pipe count w true false q r = drain_last pipe count w q r
 
   look_goes : (pipe : ℕ) (a b : Bool) → (x == 0) ≡ a → has_next k.layout pipe ≡ b
-    → Goes k c x (Look pipe) (if a && b then Look (pipe + 1) else Free)
+      → Goes k c x (Look pipe) (if a && b then Look (pipe + 1) else Free)
   look_goes pipe false b q r = look_took pipe q
   look_goes pipe true true q r = look_next pipe q r
   look_goes pipe true false q r = look_last pipe q r
@@ -159,19 +158,19 @@ module _ (k : Config) (c : ControllerView) where
       at false r e = cc
 
   going_begins : (u : Update) (p : Phase) → c.update ≡ Some u → (vip_at c.vips u.vip).phase ≡ p → (s : Start)
-    → option_map (with_job c) (going_on c u p) ≡ Some s → Begins k c s
+      → option_map (with_job c) (going_on c u p) ≡ Some s → Begins k c s
   going_begins u Steady q r s e = cc
   going_begins u Holding q r s e = cc
   going_begins u Recording q r s e = at (first_before_hold u.vip c.mark c.book.entries) refl e
     where
       at : (o : Option Entry) → first_before_hold u.vip c.mark c.book.entries ≡ o
-        → option_map (with_job c) (if is_none o then Some (Draw (draw.Comes u Holding)) else None) ≡ Some s → Begins k c s
+          → option_map (with_job c) (if is_none o then Some (Draw (draw.Comes u Holding)) else None) ≡ Some s → Begins k c s
       at None f e = subst (Begins k c) (same_Some _ s e) (holds u q r f)
       at (Some w) f e = cc
   going_begins u Transit q r s e = at (first_before_finish u.vip u.old c.book.entries) refl e
     where
       at : (o : Option Entry) → first_before_finish u.vip u.old c.book.entries ≡ o
-        → option_map (with_job c) (if is_none o then Some (Store (store.Vip u Steady)) else None) ≡ Some s → Begins k c s
+          → option_map (with_job c) (if is_none o then Some (Store (store.Vip u Steady)) else None) ≡ Some s → Begins k c s
       at None f e = subst (Begins k c) (same_Some _ s e) (finishes u q r f)
       at (Some w) f e = cc
 
@@ -180,7 +179,7 @@ module _ (k : Config) (c : ControllerView) where
   change_begins (g ∷ rest) q r s e = at (is_due c.clock g.at_ms) (least_free g.vip c.numbers) refl refl e
     where
       at : (b : Bool) (o : Option ℕ) → is_due c.clock g.at_ms ≡ b → least_free g.vip c.numbers ≡ o
-        → (if b then option_map (λ number. beginning c rest (update_to c g number)) o else None) ≡ Some s → Begins k c s
+          → (if b then option_map (λ number. beginning c rest (update_to c g number)) o else None) ≡ Some s → Begins k c s
       at true (Some number) d f e = subst (Begins k c) (same_Some _ s e) (changes g rest number q r d f)
       at true None d f e = cc
       at false o d f e = cc
@@ -194,28 +193,28 @@ module _ (k : Config) (c : ControllerView) where
   opener_begins (h ∷ rest) q s e = at (entry_for h.key c.book.entries) (planned_put k.layout.shape c.book.entries h.key (aim.Held h)) refl refl e
     where
       at : (o : Option Entry) (p : Option Put) → entry_for h.key c.book.entries ≡ o → planned_put k.layout.shape c.book.entries h.key (aim.Held h) ≡ p
-        → Some (with_job c (opener_job h o p)) ≡ Some s → Begins k c s
+          → Some (with_job c (opener_job h o p)) ≡ Some s → Begins k c s
       at (Some w) p f g e = subst (Begins k c) (same_Some _ s e) (answers h rest w q f)
       at None (Some p) f g e = subst (Begins k c) (same_Some _ s e) (places_held h rest p q f g)
       at None None f g e = subst (Begins k c) (same_Some _ s e) (has_no_place h rest q f g)
 
   put_begins : (e : Entry) (rest : Option Put) (p : Put) (b : Bool) (o : Option Put) → Contains c.book.entries e → is_pending e ≡ b
-    → planned_put k.layout.shape c.book.entries e.key aim.Pending ≡ o → (rest ≡ Some p → Begins k c (with_job c (Draw (draw.Reserved p))))
-    → option_or (if b then o else None) rest ≡ Some p → Begins k c (with_job c (Draw (draw.Reserved p)))
+      → planned_put k.layout.shape c.book.entries e.key aim.Pending ≡ o → (rest ≡ Some p → Begins k c (with_job c (Draw (draw.Reserved p))))
+      → option_or (if b then o else None) rest ≡ Some p → Begins k c (with_job c (Draw (draw.Reserved p)))
   put_begins e rest p true (Some r) within a f more g = places e p within a (f ∙ g)
   put_begins e rest p true None within a f more g = more g
   put_begins e rest p false o within a f more g = more g
 
   first_put_begins : (es : List Entry) → ((e : Entry) → Contains es e → Contains c.book.entries e) → (p : Put)
-    → first_put k.layout.shape c.book.entries es ≡ Some p → Begins k c (with_job c (Draw (draw.Reserved p)))
+      → first_put k.layout.shape c.book.entries es ≡ Some p → Begins k c (with_job c (Draw (draw.Reserved p)))
   first_put_begins [] within p e = cc
   first_put_begins (e ∷ rest) within p q =
       put_begins e (first_put k.layout.shape c.book.entries rest) p (is_pending e) (planned_put k.layout.shape c.book.entries e.key aim.Pending)
-          (within e (zero, omega arith, refl)) refl refl
-          (first_put_begins rest (λ w h. within w (suc h.0, omega (arith, h.1), h.2)) p) q
+      (within e (zero, omega arith, refl)) refl refl
+      (first_put_begins rest (λ w h. within w (suc h.0, omega (arith, h.1), h.2)) p) q
 
   retirement_begins : (o : Option Entry) → find (may_retire k.layout.shape.lives) c.book.entries ≡ o → (s : Start)
-    → option_map (with_job c) (option_and_then retirement o) ≡ Some s → Begins k c s
+      → option_map (with_job c) (option_and_then retirement o) ≡ Some s → Begins k c s
   retirement_begins None q s e = cc
   retirement_begins (Some w) q s e = at w.place refl e
     where
@@ -232,12 +231,12 @@ module _ (k : Config) (c : ControllerView) where
       at false f g = cc
 
   release_begins : (o : Option (ℕ × ℕ)) → first_drained c.numbers c.book.entries ≡ o → (s : Start)
-    → option_map (λ p. with_job c (Draw (draw.Grace (wait.Release p.0 p.1)))) o ≡ Some s → Begins k c s
+      → option_map (λ p. with_job c (Draw (draw.Grace (wait.Release p.0 p.1)))) o ≡ Some s → Begins k c s
   release_begins None q s e = cc
   release_begins (Some (vip, version)) q s e = subst (Begins k c) (same_Some _ s e) (releases vip version q)
 
   pending_begins : (o : Option Put) → first_put k.layout.shape c.book.entries c.book.entries ≡ o → (s : Start)
-    → option_map (λ p. with_job c (Draw (draw.Reserved p))) o ≡ Some s → Begins k c s
+      → option_map (λ p. with_job c (Draw (draw.Reserved p))) o ≡ Some s → Begins k c s
   pending_begins None q s e = cc
   pending_begins (Some p) q s e = subst (Begins k c) (same_Some _ s e) (first_put_begins c.book.entries (λ w h. h) p q)
 
@@ -254,4 +253,4 @@ module _ (k : Config) (c : ControllerView) where
       or_cases P (retire_act k c) _ _ (λ s e. retirement_begins _ refl s e) (λ h.
       or_cases P (sweep_act k c) _ _ (λ s e. sweep_begins_at c.clock refl s e) (λ i.
       last_cases P (release_act c) _ (λ s e. release_begins _ refl s e) (λ j.
-        looks (record { refusal = a; outage = b; update = d; opener = f; pending = g; retirement = h; sweep = i; release = j })))))))))
+      looks (record { refusal = a; outage = b; update = d; opener = f; pending = g; retirement = h; sweep = i; release = j })))))))))

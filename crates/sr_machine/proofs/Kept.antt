@@ -1,10 +1,9 @@
 -- A fact that pays what is owed is kept by every event, and so by every run.
-use Rattle.std.proofs.Common.{◌≡◌, ℕ, ◌+◌, ◌^◌, ◌&&◌, nat_lt, Bool, true, false, List, [], ◌∷◌, ◌++◌, length, slice_get, slice_set, option_map, option_and_then, Option, Some, None, refl, sym, ap, subst, ◌∙◌, if◌then◌else◌}
-use Rattle.std.proofs.lemmas.Bool.{and_parts}
+use Rattle.std.proofs.Common.{◌≡◌, ℕ, ◌+◌, ◌^◌, ◌&&◌, nat_lt, Bool, true, false, List, [], ◌∷◌, ◌++◌, length, slice_get, slice_set, option_map, option_and_then, Option, Some, None, refl, ap, subst, ◌∙◌, if◌then◌else◌}
 use Rattle.std.proofs.lemmas.Option.{same_Some}
 use Rattle.sr_base.specs.declared.packet.Packet.{Packet}
 use Rattle.sr_machine.specs.Config.{Config}
-use Rattle.sr_machine.specs.Controller.{begun_op, controller_op}
+use Rattle.sr_machine.specs.Controller.{begun_op}
 use Rattle.sr_machine.specs.Core.{Core, Reaches, enters, made, opening, run, step_event, stepped, told}
 use Rattle.sr_machine.specs.Deciding.{in_bounds}
 use Rattle.sr_machine.specs.Jobs.{job_op}
@@ -12,9 +11,7 @@ use Rattle.sr_machine.specs.Keeping.{AfterJob, AfterStage, Keeps, begun_core}
 use Rattle.sr_machine.specs.Pipe.{has_vip, is_idle, pipe_op}
 use Rattle.sr_machine.specs.Starting.{begun}
 use Rattle.sr_machine.specs.Telling.{is_no_earlier, may_refuse}
-use Rattle.sr_machine.specs.declared.actor.Actor.{Actor}
 use Rattle.sr_machine.specs.declared.actor.Actor.TheVariants as actor
-use Rattle.sr_machine.specs.declared.controller_view.ControllerView.{ControllerView}
 use Rattle.sr_machine.specs.declared.event.Event.{Event}
 use Rattle.sr_machine.specs.declared.event.Event.TheVariants.{Enter, Due, Refuse, Step}
 use Rattle.sr_machine.specs.declared.op.Op.{Op}
@@ -22,7 +19,6 @@ use Rattle.sr_machine.specs.declared.pipe_view.PipeView.{PipeView}
 use Rattle.sr_machine.specs.declared.job.Job.{Job}
 use Rattle.sr_machine.specs.declared.stage.Stage.{Stage}
 use Rattle.sr_machine.specs.declared.stage.Stage.TheVariants as stage
-use Rattle.sr_machine.specs.declared.view.View.{View}
 use Rattle.sr_machine.specs.declared.view.View.TheVariants.{OfPipe, OfController}
 
 module _ (Base Fact : Core → Type 0) (keeps : Keeps Base Fact) (base : (s : Core) → Base s → Base (begun_core s)) (s t : Core) (b : Base s) (f : Fact s) where
@@ -31,14 +27,14 @@ module _ (Base Fact : Core → Type 0) (keeps : Keeps Base Fact) (base : (s : Co
   enter_keeps p packet (Some v) q e = at (is_idle v.stage) (has_vip s.config.layout packet) (nat_lt (length v.lines + 1) (2 ^ 32)) refl refl refl e
     where
       at : (i h n : Bool) → is_idle v.stage ≡ i → has_vip s.config.layout packet ≡ h → nat_lt (length v.lines + 1) (2 ^ 32) ≡ n
-        → option_map (λ w. record s { pipes = slice_set s.pipes p w }) (if i && (h && n) then Some (record v { stage = stage.Enter packet }) else None) ≡ Some t → Fact t
+          → option_map (λ w. record s { pipes = slice_set s.pipes p w }) (if i && (h && n) then Some (record v { stage = stage.Enter packet }) else None) ≡ Some t → Fact t
       at true true true i h n e = subst Fact (same_Some _ t e) (keeps.enters s p v packet q i h n b f)
       at true true false i h n e = cc
       at true false n i h m e = cc
       at false h n i g m e = cc
 
   due_keeps : (ms : ℕ) (o : Bool) → is_no_earlier s.controller.clock ms ≡ o
-    → told s (if o then Some (record s.controller { clock = Some ms }) else None) ≡ Some t → Fact t
+      → told s (if o then Some (record s.controller { clock = Some ms }) else None) ≡ Some t → Fact t
   due_keeps ms true q e = subst Fact (same_Some _ t e) (keeps.clocks s ms q b f)
   due_keeps ms false q e = cc
 
@@ -55,7 +51,7 @@ module _ (Base Fact : Core → Type 0) (keeps : Keeps Base Fact) (base : (s : Co
       at (Some o) r e = subst Fact (same_Some _ t e) (subst (AfterStage Fact s p v v.stage) r (keeps.stages s p v v.stage q refl b f))
 
   controller_keeps : (i : Bool) (o : Option Op) → in_bounds s.controller ≡ i → begun_op s.config (begun s.config s.controller) ≡ o
-    → option_map (made s actor.Controller (OfController s.controller)) (if i then o else None) ≡ Some t → Fact t
+      → option_map (made s actor.Controller (OfController s.controller)) (if i then o else None) ≡ Some t → Fact t
   controller_keeps false o q r e = cc
   controller_keeps true None q r e = cc
   controller_keeps true (Some o) q r e =
@@ -114,7 +110,7 @@ run_more [] event s t u e f = ap (λ o. option_and_then (run []) o) (ap (step_ev
 run_more (first ∷ rest) event s t u e f = by (step_event first s) e (λ v. run_more rest event v t u)
   where
     by : (o : Option Core) → option_and_then (run rest) o ≡ Some t → ((v : Core) → run rest v ≡ Some t → step_event event t ≡ Some u → run (rest ++ event ∷ []) v ≡ Some u)
-      → option_and_then (run (rest ++ event ∷ [])) o ≡ Some u
+        → option_and_then (run (rest ++ event ∷ [])) o ≡ Some u
     by None q more = cc
     by (Some v) q more = more v q f
 

@@ -1,9 +1,8 @@
 -- Each step of a packet lowers the number of steps that it makes yet.
-use Rattle.std.proofs.Common.{◌≡◌, ℕ, zero, suc, ◌+◌, ◌-◌, ◌<◌, ◌≤◌, ◌==◌, ◌&&◌, Bool, true, false, List, [], ◌∷◌, length, refl, sym, ap, ◌∙◌, arith, if◌then◌else◌}
+use Rattle.std.proofs.Common.{◌≡◌, ℕ, ◌+◌, ◌-◌, ◌<◌, ◌≤◌, ◌==◌, ◌&&◌, Bool, true, false, List, [], ◌∷◌, length, refl, ap, ◌∙◌, arith, if◌then◌else◌}
 use Rattle.sr_base.specs.Layout.{LayoutView}
 use Rattle.sr_base.specs.declared.kind.Kind.{Kind}
 use Rattle.sr_base.specs.declared.kind.Kind.TheVariants.{Opener, Carry, Ending}
-use Rattle.sr_base.specs.declared.packet.Packet.{Packet}
 use Rattle.sr_base.specs.declared.place.Place.{Place}
 use Rattle.sr_base.specs.declared.vip_word.Phase.{Phase}
 use Rattle.sr_base.specs.declared.vip_word.Phase.TheVariants.{Steady, Recording, Holding, Transit}
@@ -13,7 +12,7 @@ use Rattle.sr_law.specs.declared.verdict.Verdict.{Verdict}
 use Rattle.sr_law.specs.declared.verdict.Verdict.TheVariants as verdict
 use Rattle.sr_machine.specs.Bounds.{PacketsEnd, last_left, leg_left, marks_left, stage_after_all, stage_left}
 use Rattle.sr_machine.specs.Reads.{has_bit, read_flag, says}
-use Rattle.sr_machine.specs.Stages.{filtered, filtering, held_or, is_opener, is_recorded, is_recording, is_to, key_bits, last_after, last_at, last_by, leg_after, loaded, looked, looking, marking, missed_in, stage_after}
+use Rattle.sr_machine.specs.Stages.{filtered, filtering, held_or, is_opener, is_recording, is_to, key_bits, last_after, last_at, last_by, leg_after, loaded, looked, looking, marking, missed_in, stage_after}
 use Rattle.sr_machine.specs.declared.flight.Flight.{Flight}
 use Rattle.sr_machine.specs.declared.leg.Last.{Last}
 use Rattle.sr_machine.specs.declared.leg.Last.TheVariants as last
@@ -93,7 +92,7 @@ module _ (f : Flight) where
   last_at_left l v true = at (is_opener f.packet.kind) (is_to v) (is_recording f.vip.phase) refl refl
     where
       at : (a b c : Bool) → is_opener f.packet.kind ≡ a → is_recording f.vip.phase ≡ c
-        → last_left f (if a && (b && c) then marking (key_bits l f.packet.key) else last.Push) < 4 + marks_left f
+          → last_left f (if a && (b && c) then marking (key_bits l f.packet.key) else last.Push) < 4 + marks_left f
       at true true true d e = rw (d, e) (omega arith)
       at true true false d e = omega arith
       at true false c d e = omega arith

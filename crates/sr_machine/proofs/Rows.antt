@@ -1,4 +1,4 @@
-use Rattle.std.proofs.Common.{◌≡◌, refl, ℕ, ◌+◌, List, [], ◌∷◌, Option, Some, None}
+use Rattle.std.proofs.Common.{◌≡◌, refl, [], ◌∷◌, Some}
 use Rattle.sr_base.specs.declared.kind.Kind.TheVariants.{Opener, Carry, Ending}
 use Rattle.sr_base.specs.declared.place.Place.TheVariants.{Slot, Row}
 use Rattle.sr_hash.specs.Keyed.{hash_of}
@@ -11,7 +11,7 @@ use Rattle.sr_machine.specs.Opening.{opening_controller, opening_pipes, opening_
 use Rattle.sr_machine.specs.Reads.{read_vip, says, reserved_word, live_word, read_head, read_server, read_flag, has_bit, read_report}
 use Rattle.sr_machine.specs.Starting.{first_act}
 use Rattle.sr_machine.specs.Taking.{taking}
-use Rattle.sr_machine.proofs.Scenes.{small_shape, scene, give_at, down_at, client, packet_of, Handles, Comes, Pipes, Ends, Controls, Turns, Settles, Tells, Refuses, lines_after, answers_after, ending_after}
+use Rattle.sr_machine.proofs.Scenes.{small_shape, scene, give_at, down_at, client, packet_of, Handles, Comes, Pipes, Ends, Controls, Turns, Settles, Tells, lines_after, answers_after, ending_after}
 use Rattle.sr_machine.specs.declared.act.Act.TheVariants as act
 use Rattle.sr_machine.specs.declared.settled.Settled.TheVariants as settled
 use Rattle.sr_machine.specs.declared.turn.Turn.TheVariants as turn

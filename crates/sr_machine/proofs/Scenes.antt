@@ -1,11 +1,9 @@
 -- What the worked rows are played with: a small layout, some packets, and a way to write a course of events.
-use Rattle.std.proofs.Common.{ℕ, ◌+◌, ◌==◌, zero, suc, Bool, true, false, List, [], ◌∷◌, option_and_then, option_map, slice_get, Option, Some, None, map, reverse, replicate, if◌then◌else◌}
+use Rattle.std.proofs.Common.{ℕ, ◌+◌, zero, suc, Bool, true, false, List, [], ◌∷◌, option_and_then, option_map, slice_get, Option, Some, None}
 use Rattle.sr_base.specs.Key.{KeyView}
-use Rattle.sr_base.specs.Layout.{LayoutView}
 use Rattle.sr_base.specs.declared.change.Change.{Change}
 use Rattle.sr_base.specs.declared.change.What.TheVariants.{Give, TakeDown}
 use Rattle.sr_base.specs.declared.kind.Kind.{Kind}
-use Rattle.sr_base.specs.declared.kind.Kind.TheVariants.{Opener, Carry, Ending}
 use Rattle.sr_base.specs.declared.packet.Packet.{Packet}
 use Rattle.sr_base.specs.declared.shape.Shape.{Shape}
 use Rattle.sr_law.specs.Pools.{pools_from}
@@ -20,13 +18,21 @@ use Rattle.sr_machine.specs.declared.turn.Turn.{Turn}
 use Rattle.sr_machine.specs.declared.actor.Actor.TheVariants as actor
 use Rattle.sr_machine.specs.declared.event.Event.{Event}
 use Rattle.sr_machine.specs.declared.event.Event.TheVariants as event
-use Rattle.sr_machine.specs.declared.pipe_view.PipeView.{PipeView}
 
 -- one bucket a way and no digest, so that all keys of a virtual address clash in both ways
 abbrev pub small_shape : Shape
 small_shape = record {
-  pipes = 1; buckets = 1; digest_bits = 0; versions = 4; pool_max = 1; full_rows = 4; filter_bits = 1; ring = 8;
-  window_ms = 1; idle_ms = 1; lives = 1;
+  pipes = 1;
+  buckets = 1;
+  digest_bits = 0;
+  versions = 4;
+  pool_max = 1;
+  full_rows = 4;
+  filter_bits = 1;
+  ring = 8;
+  window_ms = 1;
+  idle_ms = 1;
+  lives = 1;
 }
 
 -- two servers, and one virtual address whose first pool is server 0

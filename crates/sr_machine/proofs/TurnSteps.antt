@@ -1,5 +1,5 @@
 -- Each step of a turn but the last lowers the number of steps that the turn makes yet.
-use Rattle.std.proofs.Common.{◌≡◌, ℕ, zero, suc, ◌+◌, ◌-◌, ◌<◌, ◌≤◌, ◌==◌, max, Bool, true, false, List, [], ◌∷◌, length, take, Option, Some, None, ◌⊎◌, inl, inr, refl, sym, ap, subst, ◌∙◌, arith, if◌then◌else◌}
+use Rattle.std.proofs.Common.{◌≡◌, ℕ, suc, ◌<◌, ◌≤◌, ◌==◌, Bool, true, false, List, [], ◌∷◌, length, take, Option, Some, None, ◌⊎◌, inl, inr, refl, sym, ap, ◌∙◌, arith, if◌then◌else◌}
 use Rattle.std.proofs.lemmas.Bool.{true≢false}
 use Rattle.sr_base.specs.Layout.{LayoutView}
 use Rattle.sr_base.specs.declared.vip_word.Phase.{Phase}
@@ -8,11 +8,10 @@ use Rattle.sr_machine.specs.Begins.{Begins, refuses, takes_down, holds, finishes
 use Rattle.sr_machine.specs.Bounds.{TurnsAreShort, TurnsEnd, cleared_left, comes_left, draw_left, job_left, store_left, vip_left}
 use Rattle.sr_machine.specs.Config.{Config}
 use Rattle.sr_machine.specs.Controller.{begun_after}
-use Rattle.sr_machine.specs.Goes.{Goes, stays_free, waits, refused, taken_down, given, comes, reserved, placed, cleared, retired, answered, sweep_begins, sweep_empty, swept, downed, member_next, member_last, head, phase_stored, filter_next, filter_last, reserve_stored, judged_live, judged_withdrawn, emptied, pass_stays, pass_next, pass_last, drain_stays, drain_next, drain_last, look_next, look_last, look_took, hit_next, hit_last}
+use Rattle.sr_machine.specs.Goes.{Goes, stays_free, taken_down, given, comes, reserved, placed, cleared, retired, phase_stored, reserve_stored, judged_live, judged_withdrawn, emptied, look_next, look_last, look_took}
 use Rattle.sr_machine.specs.Starting.{Start, begun, first_act, start_by}
-use Rattle.sr_machine.specs.Turning.{ends_with, most_steps, rest_of, turn_at, turn_by, turn_from}
+use Rattle.sr_machine.specs.Turning.{ends_with, most_steps, turn_at, turn_from}
 use Rattle.sr_machine.specs.Waiting.{has_next}
-use Rattle.sr_machine.specs.declared.act.Act.TheVariants as act
 use Rattle.sr_machine.specs.declared.controller_view.ControllerView.{ControllerView}
 use Rattle.sr_machine.specs.declared.draw.Draw.{Draw}
 use Rattle.sr_machine.specs.declared.draw.Draw.TheVariants as draw
@@ -21,7 +20,6 @@ use Rattle.sr_machine.specs.declared.job.Job.TheVariants as job
 use Rattle.sr_machine.specs.declared.store.Store.{Store}
 use Rattle.sr_machine.specs.declared.store.Store.TheVariants as store
 use Rattle.sr_machine.specs.declared.turn.Turn.{Turn}
-use Rattle.sr_machine.specs.declared.turn.Turn.TheVariants.{Did}
 use Rattle.sr_machine.specs.declared.why.Why.{Why}
 use Rattle.sr_machine.specs.declared.why.Why.TheVariants as why
 use Rattle.sr_machine.proofs.Following.{first_begins, goes}
@@ -148,18 +146,18 @@ splits : (k : Config) (c : ControllerView) (x : ℕ) (xs : List ℕ) (p : Turn �
 splits k c x xs p e = at (turn_at k c c.job x) xs refl e
   where
     at : (o : Option Turn) (ys : List ℕ) → turn_at k c c.job x ≡ o → ends_with (begun_after k c x) o ys (turn_from k (begun_after k c x) xs) ≡ Some p
-      → (ys ≡ []) ⊎ ((turn_at k c c.job x ≡ None) × (turn_from k (begun_after k c x) xs ≡ Some p))
+        → (ys ≡ []) ⊎ ((turn_at k c c.job x ≡ None) × (turn_from k (begun_after k c x) xs ≡ Some p))
     at (Some t) [] q f = inl refl
     at (Some t) (y ∷ ys) q f = cc
     at None ys q f = inr (q, f)
 
 turn_short : (k : Config) (answers : List ℕ) (c : ControllerView) (p : Turn × ControllerView) → 1 ≤ job_left k.layout c.job → turn_from k c answers ≡ Some p
-  → length answers ≤ job_left k.layout c.job
+    → length answers ≤ job_left k.layout c.job
 turn_short k [] c p h e = omega arith
 turn_short k (x ∷ xs) c p h e = by (splits k c x xs p e) (turn_short k xs (begun_after k c x) p)
   where
     by : Splits k c x xs p → (1 ≤ job_left k.layout (begun_after k c x).job → turn_from k (begun_after k c x) xs ≡ Some p → length xs ≤ job_left k.layout (begun_after k c x).job)
-      → length (x ∷ xs) ≤ job_left k.layout c.job
+        → length (x ∷ xs) ≤ job_left k.layout c.job
     by (inl q) more = let n : length xs ≡ 0 = ap length q in omega (arith, h, n)
     by (inr r) more = let f = falls k c x c.job (begun_after k c x).job (goes k c x c.job) h r.0 in omega (arith, more f.0 r.1, f.1)
 
@@ -169,14 +167,14 @@ turns_are_short k c told p e =
     omega (arith, short, job_most k.layout (begun k c).job)
 
 turn_ends : (k : Config) (answers : List ℕ) (c : ControllerView) → 1 ≤ job_left k.layout c.job → job_left k.layout c.job ≤ length answers
-  → (n : ℕ) × (p : Turn × ControllerView) × (turn_from k c (take n answers) ≡ Some p)
+    → (n : ℕ) × (p : Turn × ControllerView) × (turn_from k c (take n answers) ≡ Some p)
 turn_ends k [] c h m = absurd (omega (arith, h, m))
 turn_ends k (x ∷ xs) c h m = by (turn_at k c c.job x) refl (turn_ends k xs (begun_after k c x))
   where
     by : (o : Option Turn) → turn_at k c c.job x ≡ o
-      → (1 ≤ job_left k.layout (begun_after k c x).job → job_left k.layout (begun_after k c x).job ≤ length xs
+        → (1 ≤ job_left k.layout (begun_after k c x).job → job_left k.layout (begun_after k c x).job ≤ length xs
         → (n : ℕ) × (p : Turn × ControllerView) × (turn_from k (begun_after k c x) (take n xs) ≡ Some p))
-      → (n : ℕ) × (p : Turn × ControllerView) × (turn_from k c (take n (x ∷ xs)) ≡ Some p)
+        → (n : ℕ) × (p : Turn × ControllerView) × (turn_from k c (take n (x ∷ xs)) ≡ Some p)
     by (Some t) q more = (1, (t, begun_after k c x), ap (λ o. ends_with (begun_after k c x) o [] None) q)
     by None q more =
         let f = falls k c x c.job (begun_after k c x).job (goes k c x c.job) h q in

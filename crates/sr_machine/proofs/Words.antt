@@ -1,5 +1,5 @@
 -- Words as a function of their names.
-use Rattle.std.proofs.Common.{◌≡◌, ℕ, ◌==◌, Bool, true, false, refl, sym, ap, ◌∙◌, arith, if◌then◌else◌}
+use Rattle.std.proofs.Common.{◌≡◌, ℕ, Bool, true, false, refl, ap, arith, if◌then◌else◌}
 use Rattle.std.proofs.lemmas.Bool.Decides.{nat_tests}
 use Rattle.sr_base.proofs.Sameness.{same_place-self, same_place-true}
 use Rattle.sr_base.specs.declared.place.Place.TheVariants.{Slot, Row}

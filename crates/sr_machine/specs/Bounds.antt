@@ -1,5 +1,5 @@
 -- How many steps a packet and a turn make at most: a number for each stage and each job, which every step lowers.
-use Rattle.std.specs.Prelude.{◌≡◌, ℕ, ◌+◌, ◌-◌, ◌≤◌, ◌&&◌, max, List, [], ◌∷◌, length, take, Option, Some, if◌then◌else◌}
+use Rattle.std.specs.Prelude.{◌≡◌, ℕ, ◌+◌, ◌-◌, ◌≤◌, ◌&&◌, max, List, [], ◌∷◌, length, take, Some, if◌then◌else◌}
 use Rattle.sr_base.specs.Layout.{LayoutView}
 use Rattle.sr_base.specs.declared.packet.Packet.{Packet}
 use Rattle.sr_base.specs.declared.vip_word.Phase.{Phase}

@@ -1,5 +1,5 @@
 -- The whole machine: a state, what an event makes of it, and runs.
-use Rattle.std.specs.Prelude.{◌≡◌, ℕ, ◌++◌, nat_le, Bool, true, false, List, [], ◌∷◌, fold, slice_get, slice_set, option_map, option_and_then, reverse, Option, Some, None, if◌then◌else◌}
+use Rattle.std.specs.Prelude.{◌≡◌, ℕ, ◌++◌, nat_le, List, [], ◌∷◌, slice_get, slice_set, option_map, option_and_then, reverse, Option, Some, if◌then◌else◌}
 use Rattle.sr_base.specs.declared.packet.Packet.{Packet}
 use Rattle.sr_law.specs.Ticks.{out_of}
 use Rattle.sr_law.specs.declared.line.Line.{Line}

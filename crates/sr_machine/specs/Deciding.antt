@@ -1,5 +1,5 @@
 -- What the controller reads off its own view.
-use Rattle.std.specs.Prelude.{ℕ, ◌+◌, ◌^◌, ◌&&◌, ◌||◌, ◌==◌, nat_eq, nat_le, nat_lt, not, sum_by, Bool, true, false, List, [], ◌∷◌, slice_get, slice_index, slice_index_or, slice_set, is_none, is_some, unwrap_or, option_map, Option, Some, None, if◌then◌else◌}
+use Rattle.std.specs.Prelude.{ℕ, ◌^◌, ◌&&◌, ◌||◌, nat_eq, nat_le, nat_lt, not, sum_by, Bool, false, List, [], slice_index, slice_index_or, slice_set, is_some, unwrap_or, option_map, Option, Some, None, if◌then◌else◌}
 use Rattle.std.specs.List.{list_any}
 use Rattle.sr_base.specs.Key.{KeyView}
 use Rattle.sr_base.specs.declared.place.Place.{Place}
@@ -24,7 +24,6 @@ use Rattle.sr_machine.specs.declared.put.Put.{Put}
 use Rattle.sr_machine.specs.declared.reply.Reply.{Reply}
 use Rattle.sr_machine.specs.declared.ring_count.RingCount.{RingCount}
 use Rattle.sr_machine.specs.declared.update.Update.{Update}
-use Rattle.sr_machine.specs.declared.why.Why.{Why}
 
 -- ---- times
 
@@ -92,7 +91,7 @@ reply_if down reply = if down then Some reply else None
 abbrev pub dead_reply : Config → ControllerView → Aim → Option Reply
 dead_reply k c (aim.Held h) =
     reply_if (not (is_registered h.key c.book.entries) && is_down c.down (server_for k c.given h.key (learned c.vips h.key.vip)))
-        (record { held = h; version = Some (learned c.vips h.key.vip) })
+    (record { held = h; version = Some (learned c.vips h.key.vip) })
 dead_reply k c a = None
 
 -- the keys with which the one of a put must not clash: the registered ones, and in a move the planned one

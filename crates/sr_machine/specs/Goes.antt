@@ -1,5 +1,5 @@
 -- Which job follows a step, as a list of cases: each with why it is that one. A proof that goes by these cases sees no test.
-use Rattle.std.specs.Prelude.{◌≡◌, ℕ, ◌+◌, ◌==◌, Bool, true, false, Option, Some, None}
+use Rattle.std.specs.Prelude.{◌≡◌, ℕ, ◌+◌, ◌==◌, true, false, Option, Some, None}
 use Rattle.sr_base.specs.Key.{KeyView}
 use Rattle.sr_base.specs.declared.place.Place.{Place}
 use Rattle.sr_base.specs.declared.vip_word.Phase.{Phase}
@@ -58,7 +58,7 @@ pub data Goes (k : Config) (c : ControllerView) (x : ℕ) : Job → Job → Type
   reserve_stored : (p : Put) → Goes k c x (Store (store.Reserved p)) (Draw (draw.Grace (wait.Judge p)))
   judged_live : (p : Put) → is_withdrawn k c p ≡ false → Goes k c x (Store (store.Judge p)) (Draw (draw.Placed p))
   judged_withdrawn : (p : Put) → is_withdrawn k c p ≡ true
-    → Goes k c x (Store (store.Judge p)) (Draw (draw.Cleared p.key p.place (why.Withdrawn (dead_reply k c p.aim))))
+      → Goes k c x (Store (store.Judge p)) (Draw (draw.Cleared p.key p.place (why.Withdrawn (dead_reply k c p.aim))))
   emptied : (key : KeyView) (place : Place) (w : Why) → Goes k c x (Store (store.Empty key place w)) (Draw (draw.Cleared key place w))
   -- waits
   pass_stays : (g pipe : ℕ) (w : Wait) → is_under_way g x ≡ true → Goes k c x (Pass g pipe w) (Pass g pipe w)
@@ -67,14 +67,14 @@ pub data Goes (k : Config) (c : ControllerView) (x : ℕ) : Job → Job → Type
   drain_stays : (pipe count : ℕ) (w : Wait) → is_ring_done k.layout count x ≡ false → Goes k c x (Drain pipe count w) (Drain pipe (count + 1) w)
   drain_next : (pipe count : ℕ) (w : Wait) → is_ring_done k.layout count x ≡ true → has_next k.layout pipe ≡ true → Goes k c x (Drain pipe count w) (Drain (pipe + 1) 0 w)
   drain_last : (pipe count : ℕ) (w : Wait) → is_ring_done k.layout count x ≡ true → has_next k.layout pipe ≡ false
-    → Goes k c x (Drain pipe count w) (waited_job c.vips (book_next k c (Drain pipe count w) x).entries w)
+      → Goes k c x (Drain pipe count w) (waited_job c.vips (book_next k c (Drain pipe count w) x).entries w)
   -- looks and sweeps
   look_next : (pipe : ℕ) → (x == 0) ≡ true → has_next k.layout pipe ≡ true → Goes k c x (Look pipe) (Look (pipe + 1))
   look_last : (pipe : ℕ) → (x == 0) ≡ true → has_next k.layout pipe ≡ false → Goes k c x (Look pipe) Free
   look_took : (pipe : ℕ) → (x == 0) ≡ false → Goes k c x (Look pipe) Free
   hit_next : (from ms : ℕ) (key : KeyView) (place : Place) (taken : ℕ) (e : Entry) (at : Place)
-    → SweepsTo e at (placed_from (taken + 1) (book_next k c (Hit from ms key place taken) x).entries)
-    → Goes k c x (Hit from ms key place taken) (Hit from ms e.key at e.taken)
+      → SweepsTo e at (placed_from (taken + 1) (book_next k c (Hit from ms key place taken) x).entries)
+      → Goes k c x (Hit from ms key place taken) (Hit from ms e.key at e.taken)
   hit_last : (from ms : ℕ) (key : KeyView) (place : Place) (taken : ℕ)
-    → placed_from (taken + 1) (book_next k c (Hit from ms key place taken) x).entries ≡ None
-    → Goes k c x (Hit from ms key place taken) (Draw (draw.Swept from ms))
+      → placed_from (taken + 1) (book_next k c (Hit from ms key place taken) x).entries ≡ None
+      → Goes k c x (Hit from ms key place taken) (Draw (draw.Swept from ms))

@@ -1,7 +1,5 @@
 -- What the controller knows after a step, field by field.
 use Rattle.std.specs.Prelude.{ℕ, ◌+◌, ◌++◌, Bool, List, [], ◌∷◌, drop, slice_set, Option, Some, None, if◌then◌else◌}
-use Rattle.sr_base.specs.Key.{KeyView}
-use Rattle.sr_base.specs.declared.place.Place.{Place}
 use Rattle.sr_base.specs.declared.vip_word.Phase.TheVariants.{Recording}
 use Rattle.sr_base.specs.declared.vip_word.VipWord.{VipWord}
 use Rattle.sr_law.specs.declared.line.Line.{Line}

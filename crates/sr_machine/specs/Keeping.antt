@@ -45,13 +45,13 @@ AfterJob Fact s j (Some o) = Fact (job_core s j o)
 -- What is owed, where the base holds of the state before. The controller's steps are asked of states in which it has begun.
 pub record Keeps (Base Fact : Core → Type 0) : Type 0 where
   pub stages : (s : Core) (p : ℕ) (v : PipeView) (stage : Stage) → slice_get s.pipes p ≡ Some v → v.stage ≡ stage → Base s → Fact s
-    → AfterStage Fact s p v stage (pipe_op s.config.layout v stage)
+      → AfterStage Fact s p v stage (pipe_op s.config.layout v stage)
   pub begins : (s : Core) → Base s → Fact s → Fact (begun_core s)
   pub jobs : (s : Core) (j : Job) → s.controller.job ≡ j → in_bounds s.controller ≡ true → Base s → Fact s
-    → AfterJob Fact s j (job_op s.config s.controller j)
+      → AfterJob Fact s j (job_op s.config s.controller j)
   pub enters : (s : Core) (p : ℕ) (v : PipeView) (packet : Packet) → slice_get s.pipes p ≡ Some v → is_idle v.stage ≡ true
-    → has_vip s.config.layout packet ≡ true → nat_lt (length v.lines + 1) (2 ^ 32) ≡ true → Base s → Fact s
-    → Fact (record s { pipes = slice_set s.pipes p (record v { stage = Enter packet }) })
+      → has_vip s.config.layout packet ≡ true → nat_lt (length v.lines + 1) (2 ^ 32) ≡ true → Base s → Fact s
+      → Fact (record s { pipes = slice_set s.pipes p (record v { stage = Enter packet }) })
   pub clocks : (s : Core) (ms : ℕ) → is_no_earlier s.controller.clock ms ≡ true → Base s → Fact s
-    → Fact (record s { controller = record s.controller { clock = Some ms } })
+      → Fact (record s { controller = record s.controller { clock = Some ms } })
   pub refusals : (s : Core) → may_refuse s.controller ≡ true → Base s → Fact s → Fact (record s { controller = record s.controller { refusing = true } })

@@ -1,6 +1,5 @@
 -- The state of each version number of each virtual address: a row for each virtual address, of a state for each number.
-use Rattle.std.specs.Prelude.{◌≡◌, ℕ, ◌+◌, ◌-◌, Bool, true, false, ◌==◌, ◌&&◌, List, [], ◌∷◌, position, replicate, slice_get, slice_set, slice_index_or, count_by, Option, Some, None, if◌then◌else◌}
-use Rattle.std.specs.Option.{option_and_then}
+use Rattle.std.specs.Prelude.{ℕ, ◌+◌, ◌-◌, Bool, true, false, ◌==◌, ◌&&◌, List, [], ◌∷◌, position, replicate, slice_get, slice_set, slice_index_or, count_by, Option, Some, None, if◌then◌else◌}
 use Rattle.sr_base.specs.Layout.{LayoutView}
 use Rattle.sr_shadow.specs.Book.{count_of}
 use Rattle.sr_shadow.specs.declared.entry.Entry.{Entry}

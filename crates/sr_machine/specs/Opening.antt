@@ -1,5 +1,5 @@
 -- Where the machine begins.
-use Rattle.std.specs.Prelude.{ℕ, ◌+◌, ◌-◌, ◌==◌, Bool, true, false, List, [], ◌∷◌, ◌++◌, length, map, replicate, slice_index, unwrap_or, Option, Some, None, if◌then◌else◌}
+use Rattle.std.specs.Prelude.{ℕ, ◌+◌, ◌-◌, ◌==◌, false, List, [], ◌∷◌, ◌++◌, length, map, replicate, slice_index, unwrap_or, None, if◌then◌else◌}
 use Rattle.std.specs.List.{range_with_len}
 use Rattle.sr_base.specs.RowHead.{packed_head}
 use Rattle.sr_base.specs.declared.change.Change.{Change}
@@ -23,9 +23,10 @@ use Rattle.sr_machine.specs.declared.pool_change.PoolChange.{PoolChange}
 abbrev pub pool_changes : List Change → List Change → List PoolChange
 pool_changes earlier [] = []
 pool_changes earlier (change ∷ rest) =
-    elim change.what
-    [ Give vip pool ↦ record { at_ms = change.at_ms; position = length earlier; vip = vip; pool = length (gives_to vip earlier) + 2 } ∷ pool_changes (earlier ++ change ∷ []) rest
-    | TakeDown server ↦ pool_changes (earlier ++ change ∷ []) rest ]
+    elim change.what [
+      | Give vip pool ↦ record { at_ms = change.at_ms; position = length earlier; vip = vip; pool = length (gives_to vip earlier) + 2 } ∷ pool_changes (earlier ++ change ∷ []) rest
+      | TakeDown server ↦ pool_changes (earlier ++ change ∷ []) rest
+    ]
 
 -- the servers that are to be taken down
 abbrev pub outages_in : List Change → List Outage

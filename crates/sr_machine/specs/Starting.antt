@@ -1,5 +1,5 @@
 -- What a controller without a job begins: the first act that applies, in the order of the acts.
-use Rattle.std.specs.Prelude.{ℕ, ◌+◌, ◌&&◌, ◌||◌, ◌==◌, nat_le, is_some, is_none, find, Bool, true, false, List, [], ◌∷◌, unwrap_or, option_map, option_and_then, Option, Some, None, if◌then◌else◌}
+use Rattle.std.specs.Prelude.{ℕ, ◌+◌, ◌&&◌, ◌||◌, nat_le, is_none, find, Bool, true, false, List, [], ◌∷◌, unwrap_or, option_map, option_and_then, Option, Some, None, if◌then◌else◌}
 use Rattle.std.specs.Option.{option_or}
 use Rattle.sr_base.specs.Key.{KeyView}
 use Rattle.sr_base.specs.declared.place.Place.TheVariants.{Row}
@@ -20,7 +20,7 @@ use Rattle.sr_machine.specs.declared.controller_view.ControllerView.{ControllerV
 use Rattle.sr_machine.specs.declared.draw.Draw.TheVariants as draw
 use Rattle.sr_machine.specs.declared.held_opener.HeldOpener.{HeldOpener}
 use Rattle.sr_machine.specs.declared.job.Job.{Job}
-use Rattle.sr_machine.specs.declared.job.Job.TheVariants.{Free, Draw, Store, Pass, Drain, Look, Hit}
+use Rattle.sr_machine.specs.declared.job.Job.TheVariants.{Free, Draw, Store, Look}
 use Rattle.sr_machine.specs.declared.outage.Outage.{Outage}
 use Rattle.sr_machine.specs.declared.pool_change.PoolChange.{PoolChange}
 use Rattle.sr_machine.specs.declared.put.Aim.{Aim}
@@ -174,14 +174,14 @@ release_act c = option_map (λ p. with_job c (Draw (draw.Grace (wait.Release p.0
 unfoldable pub first_act : Config → ControllerView → Start
 first_act k c =
     unwrap_or
-        (option_or (refusal_act c)
-        (option_or (outage_act c)
-        (option_or (update_act c)
-        (option_or (opener_act k c)
-        (option_or (pending_act k c)
-        (option_or (retire_act k c)
-        (option_or (sweep_act k c) (release_act c))))))))
-        (with_job c (Look 0))
+    (option_or (refusal_act c)
+    (option_or (outage_act c)
+    (option_or (update_act c)
+    (option_or (opener_act k c)
+    (option_or (pending_act k c)
+    (option_or (retire_act k c)
+    (option_or (sweep_act k c) (release_act c))))))))
+    (with_job c (Look 0))
 
 -- a job that is set goes on
 abbrev pub start_by : Config → ControllerView → Job → Start

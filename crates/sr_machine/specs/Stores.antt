@@ -1,11 +1,9 @@
 -- The controller stores a word: which one, what, and what comes next.
-use Rattle.std.specs.Prelude.{ℕ, ◌+◌, nat_lt, not, Bool, List, length, slice_index, Option, if◌then◌else◌}
-use Rattle.sr_base.specs.Key.{KeyView}
+use Rattle.std.specs.Prelude.{ℕ, ◌+◌, nat_lt, not, Bool, length, slice_index, Option, if◌then◌else◌}
 use Rattle.sr_base.specs.Layout.{LayoutView}
 use Rattle.sr_base.specs.RowHead.{packed_head}
 use Rattle.sr_base.specs.VipWord.{packed_vip}
 use Rattle.sr_base.specs.WordName.{filter_words}
-use Rattle.sr_base.specs.declared.place.Place.{Place}
 use Rattle.sr_base.specs.declared.vip_word.Phase.{Phase}
 use Rattle.sr_base.specs.declared.vip_word.Phase.TheVariants.{Steady, Recording, Holding, Transit}
 use Rattle.sr_base.specs.declared.vip_word.VipWord.{VipWord}
@@ -25,7 +23,6 @@ use Rattle.sr_machine.specs.declared.store.Store.{Store}
 use Rattle.sr_machine.specs.declared.store.Store.TheVariants.{Down, Member, Head, Vip, Filter, Reserved, Judge, Empty}
 use Rattle.sr_machine.specs.declared.update.Update.{Update}
 use Rattle.sr_machine.specs.declared.wait.Wait.TheVariants as wait
-use Rattle.sr_machine.specs.declared.why.Why.{Why}
 use Rattle.sr_machine.specs.declared.why.Why.TheVariants as why
 
 -- ---- which word

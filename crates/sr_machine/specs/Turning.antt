@@ -1,16 +1,14 @@
 -- A turn of the controller: what it begins, and its steps up to the one that ends an act, with what it answers.
-use Rattle.std.specs.Prelude.{ℕ, ◌+◌, ◌-◌, ◌==◌, ◌&&◌, max, find, Bool, true, false, List, [], ◌∷◌, option_map, option_and_then, Option, Some, None, if◌then◌else◌, zero, suc}
+use Rattle.std.specs.Prelude.{ℕ, ◌==◌, max, find, Bool, List, [], ◌∷◌, option_map, option_and_then, Option, Some, None, if◌then◌else◌, zero, suc}
 use Rattle.sr_shadow.specs.Entry.{is_pending}
 use Rattle.sr_shadow.specs.declared.entry.Entry.{Entry}
 use Rattle.sr_base.specs.Layout.{LayoutView}
-use Rattle.sr_base.specs.declared.vip_word.Phase.{Phase}
-use Rattle.sr_base.specs.declared.vip_word.Phase.TheVariants.{Steady, Recording, Holding, Transit}
 use Rattle.sr_machine.specs.Config.{Config}
 use Rattle.sr_machine.specs.Controller.{begun_after, controller_op}
 use Rattle.sr_machine.specs.Core.{Core, made}
 use Rattle.sr_machine.specs.Ops.{op_answer, op_name}
 use Rattle.sr_machine.specs.Starting.{begun}
-use Rattle.sr_machine.specs.Telling.{full_change, may_refuse}
+use Rattle.sr_machine.specs.Telling.{full_change}
 use Rattle.sr_machine.specs.Waiting.{has_next, is_under_way, is_wait_done}
 use Rattle.sr_machine.specs.declared.act.Act.{Act}
 use Rattle.sr_machine.specs.declared.act.Act.TheVariants as act
