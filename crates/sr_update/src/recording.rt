@@ -1,0 +1,45 @@
+ghost use Rattle.std.specs.Prelude.{◌≡◌};
+ghost use Rattle.sr_base.specs.declared.vip_word.Phase.TheVariants.{Recording as InRecording, Holding as InHolding};
+ghost use Rattle.sr_update.specs.declared.update.Update.{Update as AnUpdate};
+
+use crate::{Holding, Passed, Update};
+use std::marker::Model;
+
+/// An update whose virtual address records: new connections still get the number that is replaced, and set their filter bits. It is made by
+/// `Numbers::given` alone.
+#[derive(Debug, Drop)]
+pub struct Recording {
+    update: Update,
+}
+
+impl Model for Recording {
+    ghost use Rattle.sr_update.specs.Phases.{InPhase};
+    ghost use Rattle.sr_base.specs.declared.vip_word.Phase.TheVariants.{Recording as InRecording};
+
+    ghost Value = { InPhase };
+
+    ghost view = { λ s. record { phase = InRecording; update = s.update } };
+}
+
+impl Recording {
+    // An update that begins.
+    pub(crate) fn of(update: Update) -> Recording
+        ensures { result ≡ record { phase = InRecording; update = update } }
+    {
+        Recording { update }
+    }
+
+    /// The update.
+    pub fn update(&self) -> &Update
+        ensures { result.now ≡ self.now.update }
+    {
+        &self.update
+    }
+
+    /// Keys that have a filter bit by now are all pending or placed.
+    pub fn hold(self, passed: Passed) -> Holding
+        ensures { result ≡ record self { phase = InHolding } }
+    {
+        Holding::of(self.update)
+    }
+}
