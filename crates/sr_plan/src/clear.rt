@@ -11,8 +11,8 @@ use sr_shadow::{Entry, Shadow, book_rules};
 // clash with the key there; the key itself stands nowhere.
 pub(crate) fn is_clear_but(shadow: &Shadow, layout: &Layout, key: Key, other: Key) -> bool
     requires made { shadow.now.layout ≡ layout.now }
-    requires unplaced { NonePlaced key shadow.now.entries }
-    ensures { result ≡ is_clear_but layout.now.shape shadow.now.entries key other }
+    requires unplaced { NonePlaced key shadow.now.book.entries }
+    ensures { result ≡ is_clear_but layout.now.shape shadow.now.book.entries key other }
 {
     book_rules(shadow);
     let standing = shadow.standing(1, key) as u128 + shadow.standing(2, key) as u128;

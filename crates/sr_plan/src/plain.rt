@@ -24,8 +24,8 @@ pub fn plan_plain(
     key: Key,
 ) -> Result<Plan, AllocError>
     requires made { shadow.now.layout ≡ layout.now }
-    requires unplaced { IsUnplaced key shadow.now.entries }
-    ensures { IfOk result (λ p. p ≡ first_plan layout.now.shape shadow.now.entries key) }
+    requires unplaced { IsUnplaced key shadow.now.book.entries }
+    ensures { IfOk result (λ p. p ≡ first_plan layout.now.shape shadow.now.book.entries key) }
 {
     let es = entries(alloc, shadow)?;
     if let Some(plan) = slot_plan(layout, &es, key) {
@@ -42,7 +42,7 @@ pub fn plan_plain(
 
 // The list of entries.
 fn entries(alloc: Global, shadow: &Shadow) -> Result<Vec<Entry>, AllocError>
-    ensures { IfOk result (λ es. es.items ≡ shadow.now.entries) }
+    ensures { IfOk result (λ es. es.items ≡ shadow.now.book.entries) }
 {
     let mut es = Vec::new(alloc);
     for i in 0..shadow.len() {

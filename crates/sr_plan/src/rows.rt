@@ -9,7 +9,7 @@ use sr_shadow::{Plan, Shadow};
 
 // The first row of the key's group that nobody holds.
 pub(crate) fn first_row(shadow: &Shadow, layout: &Layout, key: Key) -> Option<Plan>
-    ensures { result ≡ row_plan layout.now.shape shadow.now.entries key }
+    ensures { result ≡ row_plan layout.now.shape shadow.now.book.entries key }
 {
     let rows = key_rows(layout, key);
     match first_free_row(shadow, rows.as_slice()) {
@@ -29,7 +29,7 @@ pub(crate) fn key_rows(layout: &Layout, key: Key) -> [u32; 4]
 
 // The first of these rows that nobody holds.
 fn first_free_row(shadow: &Shadow, rows: &[u32]) -> Option<u32>
-    ensures { result ≡ find (λ row. is_free shadow.now.entries (Row row)) rows.now }
+    ensures { result ≡ find (λ row. is_free shadow.now.book.entries (Row row)) rows.now }
 {
     for row in rows {
         if is_free(shadow, Place::Row { row: *row }) {

@@ -53,14 +53,14 @@ pub(crate) fn key_slots(layout: &Layout, key: Key) -> [Place; 8]
 
 // Whether nobody holds a place.
 pub(crate) fn is_free(shadow: &Shadow, place: Place) -> bool
-    ensures { result ≡ is_free shadow.now.entries place }
+    ensures { result ≡ is_free shadow.now.book.entries place }
 {
     shadow.holder(place).is_none()
 }
 
 // The first of these places that nobody holds.
 pub(crate) fn first_free(shadow: &Shadow, places: &[Place]) -> Option<Place>
-    ensures { result ≡ find (is_free shadow.now.entries) places.now }
+    ensures { result ≡ find (is_free shadow.now.book.entries) places.now }
 {
     for place in places {
         if is_free(shadow, *place) {
@@ -75,7 +75,7 @@ pub(crate) fn first_free(shadow: &Shadow, places: &[Place]) -> Option<Place>
 fn usable_in(shadow: &Shadow, layout: &Layout, way: u8, key: Key) -> Option<Place>
     requires made { shadow.now.layout ≡ layout.now }
     requires way { (1 ≤ way) × (way ≤ 2) }
-    ensures { result ≡ first_usable layout.now.shape shadow.now.entries key (slots_of layout.now.shape way key) }
+    ensures { result ≡ first_usable layout.now.shape shadow.now.book.entries key (slots_of layout.now.shape way key) }
 {
     if shadow.clashing(way, key) {
         None
@@ -87,7 +87,7 @@ fn usable_in(shadow: &Shadow, layout: &Layout, way: u8, key: Key) -> Option<Plac
 // The key's first usable slot.
 pub(crate) fn usable(shadow: &Shadow, layout: &Layout, key: Key) -> Option<Place>
     requires { shadow.now.layout ≡ layout.now }
-    ensures { result ≡ first_usable layout.now.shape shadow.now.entries key (key_slots layout.now.shape key) }
+    ensures { result ≡ first_usable layout.now.shape shadow.now.book.entries key (key_slots layout.now.shape key) }
 {
     match usable_in(shadow, layout, 1, key) {
         Some(place) => Some(place),

@@ -7,5 +7,6 @@ pub mod Plan
 pub mod Rivals
 pub mod Roll
 pub mod Shadow
+pub mod ShadowView
 pub mod Taking
 pub mod VersionCounts

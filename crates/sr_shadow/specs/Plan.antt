@@ -11,8 +11,8 @@ use Rattle.sr_base.specs.declared.place.Place.TheVariants.{Slot, Row}
 use Rattle.sr_base.specs.declared.shape.Shape.{Shape}
 use Rattle.sr_hash.specs.Clash.{clashes}
 use Rattle.sr_hash.specs.Uses.{bucket_of, group_of}
-use Rattle.sr_shadow.specs.Book.{entry_for, holder_of, is_clashing, is_registered, with_changed}
-use Rattle.sr_shadow.specs.Entry.{fresh, is_at, is_of, is_outside}
+use Rattle.sr_shadow.specs.Book.{entry_for, entries_with, holder_of, is_clashing, with_changed}
+use Rattle.sr_shadow.specs.Entry.{is_at, is_of, is_outside}
 use Rattle.sr_shadow.specs.declared.entry.Entry.{Entry}
 use Rattle.sr_shadow.specs.declared.plan.Plan.{Plan}
 use Rattle.sr_shadow.specs.declared.plan.Plan.TheVariants as plan
@@ -94,7 +94,7 @@ entry_at place es = find (λ e. is_at place e.place) es
 
 -- the entries where the key is registered
 abbrev pub with_key : KeyView → List Entry → List Entry
-with_key key es = if is_registered key es then es else (es ++ fresh key 0 0 ∷ [])
+with_key key es = entries_with key 0 0 es
 
 -- way 1 and way 2 are each other's other way
 abbrev pub other_way : ℕ → ℕ

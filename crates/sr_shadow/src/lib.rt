@@ -5,6 +5,7 @@
 //! | part | what it is |
 //! |---|---|
 //! | `entry`, `took` | an entry, and what taking a key answers |
+//! | `book` | the book as a plain value |
 //! | `shadow` | the book, and its calls |
 //! | `plan` | how a key is placed; the first way there is stands in `specs/Plan.antt`, and `sr_plan` finds it |
 //! | `roll`, `slot_marks` | the entries in the order of taking, and marks of those without and with a Live place |
@@ -12,6 +13,7 @@
 //! | `rivals`, `tally`, `holders` | who clashes with a key, how many of them there are, who holds a place |
 #![tactic(auto)]
 
+mod book;
 mod entry;
 mod holders;
 mod key_numbers;
@@ -24,6 +26,7 @@ mod tally;
 mod took;
 mod version_counts;
 
+pub use book::Book;
 pub use entry::Entry;
 pub use plan::Plan;
 pub use shadow::{Shadow, book_rules};
