@@ -1,8 +1,7 @@
 -- Which change is due first, and the list without it.
-use Rattle.std.proofs.Common.{◌≡◌, ℕ, zero, suc, ◌+◌, ◌-◌, ◌^◌, ◌<◌, ◌≤◌, Bool, true, false, cond, List, [], ◌∷◌, ◌++◌, length, drop, get_or, Option, Some, None, IsSome, refl, sym, ap, subst, ◌∙◌, add-one, drop-cons, length-drop, length-set, length-take, take, set, ◌⊎◌, inl, inr, eqb, count_by, replicate, append-nil, append_assoc, arith}
+use Rattle.std.proofs.Common.{◌≡◌, ℕ, ◌+◌, ◌^◌, ◌<◌, ◌≤◌, Bool, true, false, cond, List, [], ◌∷◌, ◌++◌, length, drop, get_or, Option, Some, None, IsSome, refl, sym, ap, subst, ◌∙◌, length-drop, length-set, length-take, take, set, inl, inr, eqb, replicate, append-nil, append_assoc, arith}
 use Rattle.std.specs.List.{find, AllByRecursion}
 use Rattle.std.proofs.lemmas.Bool.Decides.{nat_tests, eqb_tells}
-use Rattle.std.proofs.lemmas.Grind.{common_steps}
 use Rattle.std.proofs.lemmas.List.{drop_all, drop_more, take_more, drop-drop, length-replicate, get_or-replicate, get_or_default, get_or-set_same, get_or-set_other}
 use Rattle.std.proofs.lemmas.List.Sums.{count_by-le-length, sum_by-append}
 use Rattle.sr_base.specs.declared.change.Change.{Change}
@@ -10,7 +9,7 @@ use Rattle.sr_base.specs.declared.change.What.{What}
 use Rattle.sr_base.specs.declared.change.What.TheVariants.{Give, TakeDown}
 use Rattle.sr_base.specs.Fitting.{IsInTime}
 use Rattle.sr_update.specs.declared.give_change.GiveChange.{GiveChange}
-use Rattle.sr_update.specs.Updates.{has_come, is_due, without_first, IsInOrder, UpdatesView, first_due, with_first_gone, gives_to, next_pool, give_of, gives_after, Pooled}
+use Rattle.sr_update.specs.Updates.{is_due, without_first, IsInOrder, UpdatesView, first_due, with_first_gone, gives_to, next_pool, give_of, gives_after, Pooled}
 
 -- what holds of all holds of the one that is found
 found_after : {X : Type 0} (P : X → Type 0) (test : X → Bool) (y x : X) (ys : List X) (b : Bool) → test y ≡ b → P y
@@ -84,7 +83,7 @@ pub none_due : (items : List GiveChange) (next ms : ℕ) (clock : Option ℕ) (g
 none_due items next ms clock give within is order on late =
     let e : drop next items ≡ give ∷ drop (next + 1) items = drop_more items next give within ∙ ap (λ (g : GiveChange). g ∷ drop (next + 1) items) (sym is) in
     sym (subst (λ (gs : List GiveChange). find (is_due clock) gs ≡ None) (sym e)
-        (none_due_of clock 0 ms give (drop (next + 1) items) on (subst (IsInOrder 0) e order) late))
+    (none_due_of clock 0 ms give (drop (next + 1) items) on (subst (IsInOrder 0) e order) late))
 
 -- ---- one goes
 
@@ -121,7 +120,7 @@ gives_more before (first ∷ changes) change =
     ap (λ gs. give_of before first.at_ms first.what ++ gs) (gives_more (before ++ first ∷ []) changes change)
     ∙ sym (append_assoc (give_of before first.at_ms first.what) (gives_after (before ++ first ∷ []) changes) (give_of ((before ++ first ∷ []) ++ changes) change.at_ms change.what))
     ∙ ap (λ (bs : List Change). (give_of before first.at_ms first.what ++ gives_after (before ++ first ∷ []) changes) ++ give_of bs change.at_ms change.what)
-        (append_assoc before (first ∷ []) changes)
+    (append_assoc before (first ∷ []) changes)
 
 -- ---- the next pool of each virtual address
 
@@ -146,27 +145,30 @@ noted_next : (pools : List ℕ) (before : List Change) (change : Change) (vip n 
     → n ≡ next_pool vip before → Pooled pools before → v < 256 → get_or (set pools vip (n + 1)) v 0 ≡ next_pool v (before ++ change ∷ [])
 noted_next pools before change vip n pool v what within number p h =
     let counted : next_pool v (before ++ change ∷ []) ≡ next_pool v before + cond (gives_to v change.what) 1 0 =
-        omega (arith, sum_by-append (λ (c : Change). cond (gives_to v c.what) 1 0) before (change ∷ [])) in
+    omega (arith, sum_by-append (λ (c : Change). cond (gives_to v c.what) 1 0) before (change ∷ [])) in
     let test : gives_to v change.what ≡ eqb vip v = ap (gives_to v) what in
-    elim (eqb_tells vip v) [ inl e ↦ subst (λ (k : ℕ). get_or (set pools vip (n + 1)) k 0 ≡ next_pool v (before ++ change ∷ [])) e.1
-        (get_or-set_same pools vip (n + 1) 0 (omega (arith, p.size)) ∙ noted_yes v vip n (next_pool vip before) (next_pool v before) (next_pool v (before ++ change ∷ [])) (gives_to v change.what)
-            number (ap (λ k. next_pool k before) e.1) counted (test ∙ e.0))
-    | inr e ↦ get_or-set_other pools vip v (n + 1) 0 (λ same. e.1 (sym same)) ∙ p.next v h
-        ∙ noted_no (next_pool v before) (next_pool v (before ++ change ∷ [])) (gives_to v change.what) counted (test ∙ e.0) ]
+    elim (eqb_tells vip v) [
+      | inl e ↦ subst (λ (k : ℕ). get_or (set pools vip (n + 1)) k 0 ≡ next_pool v (before ++ change ∷ [])) e.1
+          (get_or-set_same pools vip (n + 1) 0 (omega (arith, p.size)) ∙ noted_yes v vip n (next_pool vip before) (next_pool v before) (next_pool v (before ++ change ∷ [])) (gives_to v change.what)
+          number (ap (λ k. next_pool k before) e.1) counted (test ∙ e.0))
+      | inr e ↦ get_or-set_other pools vip v (n + 1) 0 (λ same. e.1 (sym same)) ∙ p.next v h
+          ∙ noted_no (next_pool v before) (next_pool v (before ++ change ∷ [])) (gives_to v change.what) counted (test ∙ e.0)
+    ]
 
 -- a change that gives
 pub noted : (pools : List ℕ) (gives : List GiveChange) (before : List Change) (change : Change) (vip n position : ℕ) (pool : List ℕ) → change.what ≡ Give vip pool → vip < 256
     → n ≡ get_or pools vip n → Pooled pools before → length before ≡ position
     → (gives ++ record { at_ms = change.at_ms; position = position; vip = vip; pool = n } ∷ [] ≡ gives ++ give_of before change.at_ms change.what)
-        × Pooled (set pools vip (n + 1)) (before ++ change ∷ [])
+    × Pooled (set pools vip (n + 1)) (before ++ change ∷ [])
 noted pools gives before change vip n position pool what within is p size =
     let number : n ≡ next_pool vip before = is ∙ get_or_default pools vip n 0 (omega (arith, p.size)) ∙ p.next vip within in
-    let made : ℕ → ℕ → List GiveChange = λ at k. gives ++ record { at_ms = change.at_ms; position = at; vip = vip; pool = k } ∷ [] in
-    (ap (λ at. made at n) (sym size) ∙ ap (made (length before)) number ∙ ap (λ w. gives ++ give_of before change.at_ms w) (sym what), record {
-      size = length-set pools vip (n + 1) ∙ p.size;
-      next = λ v h. noted_next pools before change vip n pool v what within number p h;
-    })
-
+    let made : ℕ → ℕ → List GiveChange = λ at k. gives ++ record { at_ms = change.at_ms; position = at; vip = vip; pool = k } ∷ [] in (
+      ap (λ at. made at n) (sym size) ∙ ap (made (length before)) number ∙ ap (λ w. gives ++ give_of before change.at_ms w) (sym what),
+      record {
+        size = length-set pools vip (n + 1) ∙ p.size;
+        next = λ v h. noted_next pools before change vip n pool v what within number p h;
+      },
+    )
 
 -- a change more
 pub gives_step : (changes : List Change) (i : ℕ) (change : Change) (pools new_pools : List ℕ) (gives new_gives : List GiveChange) → i < length changes
@@ -175,7 +177,9 @@ pub gives_step : (changes : List Change) (i : ℕ) (change : Change) (pools new_
     → (new_gives ≡ gives_after [] (take (i + 1) changes)) × Pooled new_pools (take (i + 1) changes)
 gives_step changes i change pools new_pools gives new_gives within is given pooled step =
     let more : take (i + 1) changes ≡ take i changes ++ change ∷ [] =
-        take_more changes i change within ∙ ap (λ (c : Change). take i changes ++ c ∷ []) (sym is) in
-    let now = step (take i changes) pooled (omega (arith, length-take i changes)) in
-    (now.0 ∙ ap (λ (gs : List GiveChange). gs ++ give_of (take i changes) change.at_ms change.what) given ∙ sym (gives_more [] (take i changes) change)
-        ∙ ap (gives_after []) (sym more), subst (Pooled new_pools) (sym more) now.1)
+    take_more changes i change within ∙ ap (λ (c : Change). take i changes ++ c ∷ []) (sym is) in
+    let now = step (take i changes) pooled (omega (arith, length-take i changes)) in (
+      now.0 ∙ ap (λ (gs : List GiveChange). gs ++ give_of (take i changes) change.at_ms change.what) given ∙ sym (gives_more [] (take i changes) change)
+          ∙ ap (gives_after []) (sym more),
+      subst (Pooled new_pools) (sym more) now.1,
+    )

@@ -1,5 +1,5 @@
 -- A grace: a wait until each pipe was seen at rest, or at work on a packet that it took up after the grace's tick.
-use Rattle.std.specs.Prelude.{◌≡◌, ℕ, ◌+◌, ◌<◌, ◌≤◌, Bool, true, nat_lt, ◌&&◌, not, List, [], ◌∷◌, if◌then◌else◌, Result, Ok, Err}
+use Rattle.std.specs.Prelude.{ℕ, ◌+◌, Bool, nat_lt, ◌&&◌, if◌then◌else◌}
 use Rattle.sr_update.specs.declared.saw.Saw.{Saw}
 use Rattle.sr_update.specs.declared.saw.Saw.TheVariants.{Passed, NotYet}
 
@@ -13,7 +13,8 @@ pub record GraceView : Type 0 where
 abbrev pub grace_from : ℕ → ℕ → GraceView
 grace_from tick pipes = record { tick = tick; pipes = pipes; next = 0 }
 
--- a note of 0 says that the pipe is at rest, another one when it took up its packet; the packet may have missed what was published before the tick
+-- a note of 0 says that the pipe is at rest, another one when it took up its packet; the packet may have missed what
+-- was published before the tick
 abbrev pub is_behind : ℕ → ℕ → Bool
 is_behind tick note = nat_lt 0 note && nat_lt note tick
 

@@ -1,7 +1,9 @@
 -- The state of each version number of each virtual address: a row for each virtual address, of a state for each number.
-use Rattle.std.specs.Prelude.{◌≡◌, ℕ, ◌+◌, ◌-◌, ◌<◌, ◌≤◌, Bool, true, false, ◌==◌, ◌&&◌, cond, List, [], ◌∷◌, replicate, slice_get, slice_set, slice_index_or, count_by, Option, Some, None, if◌then◌else◌}
-use Rattle.std.specs.Int.{bit_at}
+use Rattle.std.specs.Prelude.{ℕ, ◌+◌, ◌-◌, Bool, true, false, ◌==◌, ◌&&◌, Option, Some, None, if◌then◌else◌}
+use Rattle.std.specs.Prelude.{List, [], ◌∷◌, replicate, slice_get, slice_set, slice_index_or, count_by}
 use Rattle.sr_base.specs.Layout.{LayoutView}
+use Rattle.sr_shadow.specs.Book.{count_of}
+use Rattle.sr_shadow.specs.declared.entry.Entry.{Entry}
 use Rattle.sr_update.specs.declared.number_state.NumberState.{NumberState}
 use Rattle.sr_update.specs.declared.number_state.NumberState.TheVariants.{Free, Current, Draining}
 
@@ -60,3 +62,22 @@ current_of vip rows = first_number (λ number. is_current) 0 (row_of vip rows)
 -- how many numbers of a virtual address are Current
 abbrev pub current_count : ℕ → NumberRows → ℕ
 current_count vip rows = count_by is_current (row_of vip rows)
+
+-- the number is Draining, and no registered key has it
+abbrev pub is_drained : ℕ → List Entry → ℕ → NumberState → Bool
+is_drained vip entries number state = is_draining state && (count_of vip number entries == 0)
+
+-- a number with its virtual address, or what comes after it
+abbrev pub or_after : ℕ → Option ℕ → Option (ℕ × ℕ) → Option (ℕ × ℕ)
+or_after vip None after = after
+or_after vip (Some number) after = Some (vip, number)
+
+-- the first such number of the virtual addresses from this one on
+abbrev pub drained_from : ℕ → NumberRows → List Entry → Option (ℕ × ℕ)
+drained_from vip [] entries = None
+drained_from vip (row ∷ rows) entries =
+    or_after vip (first_number (is_drained vip entries) 0 row) (drained_from (vip + 1) rows entries)
+
+-- the first Draining number, by virtual address and number, that no registered key has
+abbrev pub first_drained : NumberRows → List Entry → Option (ℕ × ℕ)
+first_drained rows entries = drained_from 0 rows entries

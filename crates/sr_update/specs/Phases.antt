@@ -1,5 +1,4 @@
 -- An update: which number it gives, which one it replaces, and how far it has come.
-use Rattle.std.specs.Prelude.{ℕ}
 use Rattle.sr_base.specs.declared.vip_word.Phase.{Phase}
 use Rattle.sr_update.specs.declared.update.Update.{Update}
 

@@ -1,5 +1,6 @@
 -- The changes that give a virtual address another pool and were neither taken nor dropped, and the clock.
-use Rattle.std.specs.Prelude.{◌≡◌, ℕ, ◌+◌, ◌<◌, ◌≤◌, Bool, true, false, ◌==◌, nat_le, List, [], ◌∷◌, ◌++◌, length, slice_index_or, count_by, find, Option, Some, None, option_map, if◌then◌else◌, MatchOption}
+use Rattle.std.specs.Prelude.{◌≡◌, ℕ, ◌+◌, ◌<◌, ◌≤◌, Bool, false, ◌==◌, nat_le, Option, Some, None, if◌then◌else◌, MatchOption}
+use Rattle.std.specs.Prelude.{List, [], ◌∷◌, ◌++◌, length, slice_index_or, count_by, find}
 use Rattle.sr_base.specs.declared.change.Change.{Change}
 use Rattle.sr_base.specs.declared.change.What.{What}
 use Rattle.sr_base.specs.declared.change.What.TheVariants.{Give, TakeDown}
@@ -20,14 +21,15 @@ abbrev pub gives_to : ℕ → What → Bool
 gives_to vip (Give to pool) = to == vip
 gives_to vip (TakeDown server) = false
 
--- The number of a pool that a virtual address is given, after these changes. The pool that it begins with has number 1, and each change that gives
--- it one counts, whatever becomes of the change.
+-- The number of a pool that a virtual address is given, after these changes. The pool that it begins with has number
+-- 1, and each change that gives it one counts, whatever becomes of the change.
 abbrev pub next_pool : ℕ → List Change → ℕ
 next_pool vip before = count_by (λ change. gives_to vip change.what) before + 2
 
 -- what a change after these gives, where it gives something
 abbrev pub give_of : List Change → ℕ → What → List GiveChange
-give_of before at_ms (Give vip pool) = record { at_ms = at_ms; position = length before; vip = vip; pool = next_pool vip before } ∷ []
+give_of before at_ms (Give vip pool) =
+    record { at_ms = at_ms; position = length before; vip = vip; pool = next_pool vip before } ∷ []
 give_of before at_ms (TakeDown server) = []
 
 -- what the changes after these give

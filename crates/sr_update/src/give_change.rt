@@ -7,6 +7,7 @@ pub struct GiveChange {
     pub position: u32,
     /// The virtual address.
     pub vip: u8,
-    /// The number of the pool: 1 is the one that the virtual address begins with, and each change that gives it one has the next number.
+    /// The number of the pool: 1 is the one that the virtual address begins with, and each change that gives it one
+    /// has the next number.
     pub pool: u64,
 }

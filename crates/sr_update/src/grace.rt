@@ -4,9 +4,9 @@ ghost use Rattle.sr_update.specs.Grace.{grace_from, saw_of, after_note};
 use crate::Saw;
 use std::marker::Model;
 
-/// A wait for every pipe after a publication. A tick is drawn after what was published; a pipe has passed once its note was read as 0, since it is
-/// at rest, or as a later tick, since it then took up its packet after the publication. So once all have passed, no packet in flight can have
-/// missed what was published.
+/// A wait for every pipe after a publication. A tick is drawn after what was published; a pipe has passed once its
+/// note was read as 0, since it is at rest, or as a later tick, since it then took up its packet after the
+/// publication. So once all have passed, no packet in flight can have missed what was published.
 #[derive(Debug, Drop)]
 pub struct Grace {
     tick: u64,
@@ -51,7 +51,8 @@ impl Grace {
         }
     }
 
-    /// The note of the next pipe was read. `NotYet` exactly where it is a tick before the grace's; then the same pipe stays the next one.
+    /// The note of the next pipe was read. `NotYet` exactly where it is a tick before the grace's; then the same pipe
+    /// stays the next one.
     pub fn saw(&mut self, note: u64) -> Saw
         requires { self.old.next < self.old.pipes }
         ensures answer { result ≡ saw_of self.old note }

@@ -1,8 +1,8 @@
 ghost use Rattle.std.specs.Prelude.{◌≡◌};
 ghost use Rattle.sr_update.specs.Numbers.{is_free, is_current, is_draining};
 
-/// What a version number of a virtual address stands for. (SilkRoad, SIGCOMM 2017: an update gives the new pool a version number of its own, and a
-/// number is used again once no connection has it.)
+/// What a version number of a virtual address stands for. (SilkRoad, SIGCOMM 2017: an update gives the new pool a
+/// version number of its own, and a number is used again once no connection has it.)
 #[derive(Clone, Copy, Debug, PartialEq, Eq)]
 pub enum NumberState {
     /// For no pool: it was never given, or was released.

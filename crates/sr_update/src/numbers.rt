@@ -1,12 +1,15 @@
 ghost use Rattle.std.specs.Prelude.{◌≡◌, ◌<◌, IfOk, Some, length};
 ghost use Rattle.sr_base.specs.declared.vip_word.Phase.TheVariants.{Recording as InRecording};
-ghost use Rattle.sr_update.specs.Numbers.{opening_rows, row_of, state_of, with_state, least_free, current_of, current_count};
+ghost use Rattle.sr_shadow.specs.Book.{count_of};
+ghost use Rattle.sr_update.specs.Numbers.{opening_rows, row_of, state_of, with_state};
+ghost use Rattle.sr_update.specs.Numbers.{least_free, current_of, current_count, first_drained};
 ghost use Rattle.sr_update.specs.declared.number_state.NumberState.{NumberState as AState};
 ghost use Rattle.sr_update.specs.declared.number_state.NumberState.TheVariants.{Free, Current, Draining};
 
 use crate::row::Row;
-use crate::{NumberState, Recording, Update};
+use crate::{NumberState, Passed, Recording, Update};
 use sr_base::{Layout, Version, layout_ranges};
+use sr_shadow::Shadow;
 use std::alloc::{AllocError, Global};
 use std::marker::Model;
 
@@ -54,7 +57,7 @@ impl Numbers {
         ensures { result ≡ least_free vip self.now }
     {
         match self.rows[vip as usize].least_free() {
-            Some(n) => Version::new(n),
+            Some(n) => Some(version_of(n)),
             None => None,
         }
     }
@@ -78,6 +81,28 @@ impl Numbers {
         })
     }
 
+    /// The first Draining number, by virtual address and number, that no registered key has. The Draining numbers
+    /// alone are looked at.
+    pub fn first_drained(&self, shadow: &Shadow) -> Option<(u8, Version)>
+        ensures { result ≡ first_drained self.now shadow.now.book.entries }
+    {
+        for vip in 0..self.rows.len() {
+            if let Some(n) = self.rows[vip].drained(vip as u8, shadow) {
+                return Some((vip as u8, version_of(n)));
+            }
+        }
+        None
+    }
+
+    /// A number is Free again, once a grace has passed since no registered key has it.
+    pub fn release(&mut self, vip: u8, version: Version, shadow: &Shadow, passed: Passed)
+        requires draining { state_of vip version self.old ≡ Some Draining }
+        requires unused { count_of vip version shadow.now.book.entries ≡ 0 }
+        ensures { self.new ≡ with_state vip version Free self.old }
+    {
+        self.put(vip, version, NumberState::Free);
+    }
+
     // The virtual address's Current number.
     fn current(&self, vip: u8) -> Version
         requires within { vip < length self.now }
@@ -85,10 +110,7 @@ impl Numbers {
         ensures { Some result ≡ current_of vip self.now }
     {
         match self.rows[vip as usize].current() {
-            Some(n) => match Version::new(n) {
-                Some(version) => version,
-                None => unreachable!(),
-            },
+            Some(n) => version_of(n),
             None => unreachable!(),
         }
     }
@@ -100,5 +122,16 @@ impl Numbers {
     {
         let row = &mut self.rows[vip as usize];
         row.put(version.number(), state);
+    }
+}
+
+// The version of a number below 64.
+fn version_of(n: u8) -> Version
+    requires { n < 64 }
+    ensures { result ≡ n }
+{
+    match Version::new(n) {
+        Some(version) => version,
+        None => unreachable!(),
     }
 }

@@ -1,13 +1,17 @@
-ghost use Rattle.std.specs.Prelude.{◌≡◌, ◌<◌, ◌≤◌, length, replicate, slice_get, slice_set, IfSome, Some};
-ghost use Rattle.sr_update.specs.Numbers.{is_free, is_current, opening_row, first_number};
+ghost use Rattle.std.specs.Prelude.{◌≡◌, ◌<◌, ◌≤◌, ◌==◌, length, replicate, slice_get, slice_set, IfSome, Some};
+ghost use Rattle.sr_shadow.specs.Book.{count_of};
+ghost use Rattle.sr_update.specs.Numbers.{is_free, is_current, is_drained, opening_row, first_number};
 ghost use Rattle.sr_update.specs.declared.number_state.NumberState.TheVariants.{Free};
 
 use crate::NumberState;
 use crate::number_set::{first_from, numbers_below, with_number};
 use crate::number_state::{is_current, is_draining, is_free};
+use sr_base::Version;
+use sr_shadow::Shadow;
 use std::marker::Model;
 
-// The numbers of a virtual address, each with its state, and beside them the Free and the Draining ones as the bits of a word each.
+// The numbers of a virtual address, each with its state, and beside them the Free and the Draining ones as the bits of
+// a word each.
 #[derive(Drop)]
 pub(crate) struct Row {
     states: [NumberState; 64],
@@ -25,7 +29,8 @@ impl Model for Row {
 
     ghost view = { λ r. take r.versions r.states };
 
-    ghost invariant = { λ r. (length (take r.versions r.states) ≡ r.versions) × IsRow (take r.versions r.states) r.free r.draining };
+    ghost invariant = { λ r.
+        (length (take r.versions r.states) ≡ r.versions) × IsRow (take r.versions r.states) r.free r.draining };
 }
 
 impl Row {
@@ -82,6 +87,33 @@ impl Row {
             }
         }
         None
+    }
+
+    // The least Draining number that no registered key has, where this is the row of a virtual address. The Draining
+    // ones alone are looked at.
+    pub(crate) fn drained(&self, vip: u8, shadow: &Shadow) -> Option<u8>
+        ensures value { result ≡ first_number (is_drained vip shadow.now.book.entries) 0 self.now }
+        ensures within { IfSome result (λ n. n < 64) }
+    {
+        let mut from = 0;
+        while let Some(n) = first_from(self.draining, from) {
+            if is_unused(shadow, vip, n) {
+                return Some(n);
+            }
+            from = n + 1;
+        }
+        None
+    }
+}
+
+// Whether no registered key has this virtual address and number.
+fn is_unused(shadow: &Shadow, vip: u8, n: u8) -> bool
+    requires { n < 64 }
+    ensures { result ≡ (count_of vip n shadow.now.book.entries == 0) }
+{
+    match Version::new(n) {
+        Some(version) => shadow.count(vip, version) == 0,
+        None => unreachable!(),
     }
 }
 

@@ -11,8 +11,8 @@ use sr_base::{Change, What};
 use std::alloc::{AllocError, Global};
 use std::marker::Model;
 
-/// The changes that give a virtual address another pool and were neither taken nor dropped, in order, and the clock. The other changes aren't
-/// looked at.
+/// The changes that give a virtual address another pool and were neither taken nor dropped, in order, and the clock.
+/// The other changes aren't looked at.
 #[derive(Drop)]
 pub struct Updates {
     gives: Vec<GiveChange>,
@@ -72,7 +72,8 @@ impl Updates {
         }
     }
 
-    /// Begins the first update that is due: takes its change where its virtual address has a Free number, and else changes nothing.
+    /// Begins the first update that is due: takes its change where its virtual address has a Free number, and else
+    /// changes nothing.
     pub fn begin(&mut self, numbers: &Numbers) -> Begin
         requires { AllByRecursion (λ give. give.vip < length numbers.now) self.old.gives }
         ensures answer { result ≡ begin_of numbers.now (first_due self.old) }
@@ -94,7 +95,8 @@ impl Updates {
         }
     }
 
-    /// Drops the first change that is due, whose virtual address has no Free number, and answers its position among all changes, from 0.
+    /// Drops the first change that is due, whose virtual address has no Free number, and answers its position among
+    /// all changes, from 0.
     pub fn refuse(&mut self, numbers: &Numbers) -> u32
         requires vips { AllByRecursion (λ give. give.vip < length numbers.now) self.old.gives }
         requires full { (give : AGive) × (first_due self.old ≡ Some give) × (least_free give.vip numbers.now ≡ None) }
@@ -120,10 +122,16 @@ impl Updates {
 }
 
 // Appends what a change gives, after those before it. The next pool number of each virtual address stands in `pools`.
-fn note(pools: &mut Vec<u64>, gives: &mut Vec<GiveChange>, position: u32, change: &Change) -> Result<(), AllocError>
+fn note(
+    pools: &mut Vec<u64>,
+    gives: &mut Vec<GiveChange>,
+    position: u32,
+    change: &Change,
+) -> Result<(), AllocError>
     requires { (before : List AChange) × Pooled pools.old.items before × (length before ≡ position) }
     ensures { OnOk result ((before : List AChange) → Pooled pools.old.items before → length before ≡ position
-        → (gives.new.items ≡ gives.old.items ++ give_of before change.now.at_ms change.now.what) × Pooled pools.new.items (before ++ change.now ∷ [])) }
+        → (gives.new.items ≡ gives.old.items ++ give_of before change.now.at_ms change.now.what)
+        × Pooled pools.new.items (before ++ change.now ∷ [])) }
 {
     match &change.what {
         What::Give { vip, .. } => {

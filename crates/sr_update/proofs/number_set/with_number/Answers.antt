@@ -1,5 +1,3 @@
-use Rattle.std.proofs.Common.{Bool, subst, sym}
-use Rattle.sr_update.specs.NumberSet.{IsWith}
 use Rattle.sr_update.proofs.Bits.{put_in, put_out}
 use Rattle.sr_update.proofs.number_set.with_number.Goals as goal
 

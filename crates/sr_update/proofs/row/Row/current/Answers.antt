@@ -1,4 +1,4 @@
-use Rattle.std.proofs.Common.{arith, ◌≡◌, sym, subst, ◌∙◌, ap, length, List, ℕ}
+use Rattle.std.proofs.Common.{arith, sym, ◌∙◌, ap, length}
 use Rattle.sr_update.specs.Numbers.{is_current}
 use Rattle.sr_update.proofs.Rows.{state_found, state_none}
 use Rattle.sr_update.proofs.row.Row.current.Goals as goal

@@ -1,4 +1,4 @@
-use Rattle.std.proofs.Common.{arith, subst, sym, ap, ◌∙◌, ◌≡◌, List}
+use Rattle.std.proofs.Common.{arith, subst, sym, ap, ◌∙◌, List, []}
 use Rattle.std.proofs.lemmas.List.{take_all}
 use Rattle.sr_update.specs.declared.give_change.GiveChange.{GiveChange}
 use Rattle.sr_update.specs.Updates.{IsInOrder, gives_after}
@@ -8,7 +8,7 @@ use Rattle.sr_update.proofs.updates.Updates.new.Goals as goal
 pub loop-position-preserved : goal.loop-position-preserved
 loop-position-preserved c =
     let h = gives_step c.args.changes.now c.loop-position.position c.index-changes-position.result c.loop-position.pools.items c.note.new.pools.items c.loop-position.gives.items
-        c.note.new.gives.items c.loop-position-test.true c.index-changes-position.is c.loop-position.invariant.given c.loop-position.invariant.pooled c.in_ok-note.ensures in
+    c.note.new.gives.items c.loop-position-test.true c.index-changes-position.is c.loop-position.invariant.given c.loop-position.invariant.pooled c.in_ok-note.ensures in
     record { given = h.0; pooled = h.1 }
 
 pub invariant_of-result : goal.invariant_of-result

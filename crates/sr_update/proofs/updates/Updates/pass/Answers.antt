@@ -1,4 +1,4 @@
-use Rattle.std.proofs.Common.{◌≡◌, sym, subst, refl, IsSome}
+use Rattle.std.proofs.Common.{sym, subst, refl, IsSome}
 use Rattle.sr_update.specs.Updates.{UpdatesView, first_due}
 use Rattle.sr_update.proofs.Dues.{pass_kept, pass_view}
 use Rattle.sr_update.proofs.updates.Updates.pass.Goals as goal
