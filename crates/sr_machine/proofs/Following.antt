@@ -12,14 +12,15 @@ use Rattle.sr_base.specs.Key.{KeyView}
 use Rattle.sr_shadow.specs.declared.entry.Entry.{Entry}
 use Rattle.sr_machine.specs.Begins.{Begins, refuses, takes_down, holds, finishes, changes, answers, places_held, has_no_place, places, retires, sweeps, releases, looks}
 use Rattle.sr_machine.specs.Config.{Config}
-use Rattle.sr_machine.specs.Deciding.{dead_reply, is_due, is_withdrawn, vip_at}
+use Rattle.sr_machine.specs.Deciding.{dead_reply, is_withdrawn, vip_at}
 use Rattle.sr_machine.specs.Draws.{hit_job, sweep_job}
 use Rattle.sr_machine.specs.Goes.{Goes, stays_free, waits, refused, taken_down, given, comes, reserved, placed, cleared, retired, answered, sweep_begins, sweep_empty, swept, downed, member_next, member_last, head, phase_stored, filter_next, filter_last, reserve_stored, judged_live, judged_withdrawn, emptied, pass_stays, pass_next, pass_last, drain_stays, drain_next, drain_last, look_next, look_last, look_took, hit_next, hit_last}
 use Rattle.sr_machine.specs.Jobs.{book_next, job_next}
-use Rattle.sr_machine.specs.Numbers.{first_drained, least_free}
+use Rattle.sr_update.specs.Numbers.{first_drained, least_free}
+use Rattle.sr_update.specs.Updates.{has_come}
 use Rattle.sr_machine.specs.Starting.{Start, change_of, first_act, first_put, going_on, opener_act, opener_job, opener_of, outage_act, outage_of, outage_start, pending_act, planned_put, refusal_act, refusal_of, release_act, retire_act, retirement, sweep_act, sweep_of, update_act, update_of, update_to, beginning, with_job, may_retire}
 use Rattle.sr_machine.specs.Stores.{is_last_filter, is_last_member, judged_draw}
-use Rattle.sr_machine.specs.Waits.{first_before_finish, first_before_hold}
+use Rattle.sr_update.specs.Waits.{first_before_finish, first_before_hold}
 use Rattle.sr_machine.specs.Waiting.{all_passed, has_next, is_ring_done, is_under_way, waited_job}
 use Rattle.sr_machine.specs.declared.controller_view.ControllerView.{ControllerView}
 use Rattle.sr_machine.specs.declared.draw.Draw.TheVariants as draw
@@ -27,13 +28,13 @@ use Rattle.sr_machine.specs.declared.held_opener.HeldOpener.{HeldOpener}
 use Rattle.sr_machine.specs.declared.job.Job.{Job}
 use Rattle.sr_machine.specs.declared.job.Job.TheVariants.{Free, Draw, Store, Pass, Drain, Look, Hit}
 use Rattle.sr_machine.specs.declared.outage.Outage.{Outage}
-use Rattle.sr_machine.specs.declared.pool_change.PoolChange.{PoolChange}
+use Rattle.sr_update.specs.declared.give_change.GiveChange.{GiveChange}
 use Rattle.sr_machine.specs.declared.put.Aim.TheVariants as aim
 use Rattle.sr_machine.specs.declared.put.Put.{Put}
 use Rattle.sr_machine.specs.declared.store.Store.TheVariants as store
 use Rattle.sr_machine.specs.declared.wait.Wait.{Wait}
 use Rattle.sr_machine.specs.declared.wait.Wait.TheVariants as wait
-use Rattle.sr_machine.specs.declared.update.Update.{Update}
+use Rattle.sr_machine.specs.declared.pool_update.PoolUpdate.{PoolUpdate}
 
 -- ---- what is found
 
@@ -71,12 +72,12 @@ module _ (k : Config) (c : ControllerView) (x : ℕ) where
       at None n = absurd (none_placed e n (and_parts (nat_le (taken + 1) e.taken) (is_placed e) (found (λ e. nat_le (taken + 1) e.taken && is_placed e) (book_next k c (Hit from ms key place taken) x).entries e q)).1)
       at (Some stands) n = hit_next from ms key place taken e stands (record { found = q; stands = n })
 
-  member_goes : (u : Update) (index : ℕ) (b : Bool) → is_last_member k u index ≡ b
+  member_goes : (u : PoolUpdate) (index : ℕ) (b : Bool) → is_last_member k u index ≡ b
       → Goes k c x (Store (store.Member u index)) (Store (if b then store.Head u else store.Member u (index + 1)))
   member_goes u index true q = member_last u index q
   member_goes u index false q = member_next u index q
 
-  filter_goes : (u : Update) (index : ℕ) (b : Bool) → is_last_filter k.layout index ≡ b
+  filter_goes : (u : PoolUpdate) (index : ℕ) (b : Bool) → is_last_filter k.layout index ≡ b
       → Goes k c x (Store (store.Filter u index)) (if b then Free else Store (store.Filter u (index + 1)))
   filter_goes u index true q = filter_last u index q
   filter_goes u index false q = filter_next u index q
@@ -144,20 +145,20 @@ module _ {X : Type 0} (P : X → Type 0) where
   last_cases None d one more = more refl
 
 module _ (k : Config) (c : ControllerView) where
-  refusal_begins : (b : Bool) (gives : List PoolChange) → c.refusing ≡ b → c.gives ≡ gives → (s : Start) → refusal_of c b gives ≡ Some s → Begins k c s
+  refusal_begins : (b : Bool) (gives : List GiveChange) → c.refusing ≡ b → c.gives ≡ gives → (s : Start) → refusal_of c b gives ≡ Some s → Begins k c s
   refusal_begins true (g ∷ rest) q r s e = subst (Begins k c) (same_Some _ s e) (refuses g rest q r)
   refusal_begins true [] q r s e = cc
   refusal_begins false gives q r s e = cc
 
   outage_begins : (outages : List Outage) → c.outages ≡ outages → (s : Start) → outage_of c outages ≡ Some s → Begins k c s
   outage_begins [] q s e = cc
-  outage_begins (o ∷ rest) q s e = at (is_due c.clock o.at_ms) refl e
+  outage_begins (o ∷ rest) q s e = at (has_come o.at_ms c.clock) refl e
     where
-      at : (b : Bool) → is_due c.clock o.at_ms ≡ b → (if b then Some (outage_start c o rest) else None) ≡ Some s → Begins k c s
+      at : (b : Bool) → has_come o.at_ms c.clock ≡ b → (if b then Some (outage_start c o rest) else None) ≡ Some s → Begins k c s
       at true r e = subst (Begins k c) (same_Some _ s e) (takes_down o rest q r)
       at false r e = cc
 
-  going_begins : (u : Update) (p : Phase) → c.update ≡ Some u → (vip_at c.vips u.vip).phase ≡ p → (s : Start)
+  going_begins : (u : PoolUpdate) (p : Phase) → c.update ≡ Some u → (vip_at c.vips u.vip).phase ≡ p → (s : Start)
       → option_map (with_job c) (going_on c u p) ≡ Some s → Begins k c s
   going_begins u Steady q r s e = cc
   going_begins u Holding q r s e = cc
@@ -167,24 +168,24 @@ module _ (k : Config) (c : ControllerView) where
           → option_map (with_job c) (if is_none o then Some (Draw (draw.Comes u Holding)) else None) ≡ Some s → Begins k c s
       at None f e = subst (Begins k c) (same_Some _ s e) (holds u q r f)
       at (Some w) f e = cc
-  going_begins u Transit q r s e = at (first_before_finish u.vip u.old c.book.entries) refl e
+  going_begins u Transit q r s e = at (first_before_finish u.vip u.replaced c.book.entries) refl e
     where
-      at : (o : Option Entry) → first_before_finish u.vip u.old c.book.entries ≡ o
+      at : (o : Option Entry) → first_before_finish u.vip u.replaced c.book.entries ≡ o
           → option_map (with_job c) (if is_none o then Some (Store (store.Vip u Steady)) else None) ≡ Some s → Begins k c s
       at None f e = subst (Begins k c) (same_Some _ s e) (finishes u q r f)
       at (Some w) f e = cc
 
-  change_begins : (gives : List PoolChange) → c.update ≡ None → c.gives ≡ gives → (s : Start) → change_of c gives ≡ Some s → Begins k c s
+  change_begins : (gives : List GiveChange) → c.update ≡ None → c.gives ≡ gives → (s : Start) → change_of c gives ≡ Some s → Begins k c s
   change_begins [] q r s e = cc
-  change_begins (g ∷ rest) q r s e = at (is_due c.clock g.at_ms) (least_free g.vip c.numbers) refl refl e
+  change_begins (g ∷ rest) q r s e = at (has_come g.at_ms c.clock) (least_free g.vip c.numbers) refl refl e
     where
-      at : (b : Bool) (o : Option ℕ) → is_due c.clock g.at_ms ≡ b → least_free g.vip c.numbers ≡ o
+      at : (b : Bool) (o : Option ℕ) → has_come g.at_ms c.clock ≡ b → least_free g.vip c.numbers ≡ o
           → (if b then option_map (λ number. beginning c rest (update_to c g number)) o else None) ≡ Some s → Begins k c s
       at true (Some number) d f e = subst (Begins k c) (same_Some _ s e) (changes g rest number q r d f)
       at true None d f e = cc
       at false o d f e = cc
 
-  update_begins : (update : Option Update) → c.update ≡ update → (s : Start) → update_of c update ≡ Some s → Begins k c s
+  update_begins : (update : Option PoolUpdate) → c.update ≡ update → (s : Start) → update_of c update ≡ Some s → Begins k c s
   update_begins None q s e = change_begins c.gives q refl s e
   update_begins (Some u) q s e = going_begins u (vip_at c.vips u.vip).phase q refl s e
 

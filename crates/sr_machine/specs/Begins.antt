@@ -7,20 +7,21 @@ use Rattle.sr_shadow.specs.Entry.{is_pending}
 use Rattle.sr_shadow.specs.Plan.{first_plan}
 use Rattle.sr_shadow.specs.declared.entry.Entry.{Entry}
 use Rattle.sr_machine.specs.Config.{Config}
-use Rattle.sr_machine.specs.Deciding.{is_due, vip_at}
-use Rattle.sr_machine.specs.Numbers.{first_drained, least_free}
+use Rattle.sr_machine.specs.Deciding.{vip_at}
+use Rattle.sr_update.specs.Numbers.{first_drained, least_free}
+use Rattle.sr_update.specs.Updates.{has_come}
 use Rattle.sr_machine.specs.Starting.{Start, beginning, may_retire, opener_act, outage_act, outage_start, pending_act, put_of, refusal_act, refusal_start, release_act, retire_act, sweep_act, update_act, update_to, with_job}
-use Rattle.sr_machine.specs.Waits.{first_before_finish, first_before_hold}
+use Rattle.sr_update.specs.Waits.{first_before_finish, first_before_hold}
 use Rattle.sr_machine.specs.declared.controller_view.ControllerView.{ControllerView}
 use Rattle.sr_machine.specs.declared.draw.Draw.TheVariants as draw
 use Rattle.sr_machine.specs.declared.held_opener.HeldOpener.{HeldOpener}
 use Rattle.sr_machine.specs.declared.job.Job.TheVariants as job
 use Rattle.sr_machine.specs.declared.outage.Outage.{Outage}
-use Rattle.sr_machine.specs.declared.pool_change.PoolChange.{PoolChange}
+use Rattle.sr_update.specs.declared.give_change.GiveChange.{GiveChange}
 use Rattle.sr_machine.specs.declared.put.Aim.TheVariants as aim
 use Rattle.sr_machine.specs.declared.put.Put.{Put}
 use Rattle.sr_machine.specs.declared.store.Store.TheVariants as store
-use Rattle.sr_machine.specs.declared.update.Update.{Update}
+use Rattle.sr_machine.specs.declared.pool_update.PoolUpdate.{PoolUpdate}
 use Rattle.sr_machine.specs.declared.wait.Wait.TheVariants as wait
 
 -- no act applies
@@ -36,13 +37,13 @@ pub record NoAct (k : Config) (c : ControllerView) : Type 0 where
 
 -- what a controller without a job begins
 pub data Begins (k : Config) (c : ControllerView) : Start → Type 0 where
-  refuses : (g : PoolChange) (rest : List PoolChange) → c.refusing ≡ true → c.gives ≡ g ∷ rest → Begins k c (refusal_start c g rest)
-  takes_down : (o : Outage) (rest : List Outage) → c.outages ≡ o ∷ rest → is_due c.clock o.at_ms ≡ true → Begins k c (outage_start c o rest)
-  holds : (u : Update) → c.update ≡ Some u → (vip_at c.vips u.vip).phase ≡ Recording → first_before_hold u.vip c.mark c.book.entries ≡ None
+  refuses : (g : GiveChange) (rest : List GiveChange) → c.refusing ≡ true → c.gives ≡ g ∷ rest → Begins k c (refusal_start c g rest)
+  takes_down : (o : Outage) (rest : List Outage) → c.outages ≡ o ∷ rest → has_come o.at_ms c.clock ≡ true → Begins k c (outage_start c o rest)
+  holds : (u : PoolUpdate) → c.update ≡ Some u → (vip_at c.vips u.vip).phase ≡ Recording → first_before_hold u.vip c.mark c.book.entries ≡ None
       → Begins k c (with_job c (job.Draw (draw.Comes u Holding)))
-  finishes : (u : Update) → c.update ≡ Some u → (vip_at c.vips u.vip).phase ≡ Transit → first_before_finish u.vip u.old c.book.entries ≡ None
+  finishes : (u : PoolUpdate) → c.update ≡ Some u → (vip_at c.vips u.vip).phase ≡ Transit → first_before_finish u.vip u.replaced c.book.entries ≡ None
       → Begins k c (with_job c (job.Store (store.Vip u Steady)))
-  changes : (g : PoolChange) (rest : List PoolChange) (number : ℕ) → c.update ≡ None → c.gives ≡ g ∷ rest → is_due c.clock g.at_ms ≡ true
+  changes : (g : GiveChange) (rest : List GiveChange) (number : ℕ) → c.update ≡ None → c.gives ≡ g ∷ rest → has_come g.at_ms c.clock ≡ true
       → least_free g.vip c.numbers ≡ Some number → Begins k c (beginning c rest (update_to c g number))
   answers : (h : HeldOpener) (rest : List HeldOpener) (e : Entry) → c.held ≡ h ∷ rest → entry_for h.key c.book.entries ≡ Some e
       → Begins k c (with_job c (job.Draw (draw.Answer (record { held = h; version = Some e.version }))))

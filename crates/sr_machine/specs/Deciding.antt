@@ -23,14 +23,7 @@ use Rattle.sr_machine.specs.declared.put.Aim.TheVariants as aim
 use Rattle.sr_machine.specs.declared.put.Put.{Put}
 use Rattle.sr_machine.specs.declared.reply.Reply.{Reply}
 use Rattle.sr_machine.specs.declared.ring_count.RingCount.{RingCount}
-use Rattle.sr_machine.specs.declared.update.Update.{Update}
-
--- ---- times
-
--- what is due at this time was told to be
-abbrev pub is_due : Option ℕ → ℕ → Bool
-is_due None at_ms = false
-is_due (Some ms) at_ms = nat_le at_ms ms
+use Rattle.sr_machine.specs.declared.pool_update.PoolUpdate.{PoolUpdate}
 
 -- ---- versions
 
@@ -52,18 +45,18 @@ learned vips vip = let w = vip_at vips vip in learned_in w.phase w.cur w.next
 abbrev pub version_for : List VipWord → List Entry → KeyView → ℕ
 version_for vips entries key = unwrap_or (option_map (λ e. e.version) (entry_for key entries)) (learned vips key.vip)
 
--- the pool that a number was last given; 0 for none
-abbrev pub given_at : List (List ℕ) → ℕ → ℕ → ℕ
-given_at given vip version = slice_index (slice_index_or given vip []) version
+-- the pool that a number names; 0 for none
+abbrev pub named_at : List (List ℕ) → ℕ → ℕ → ℕ
+named_at named vip version = slice_index (slice_index_or named vip []) version
 
--- a number is given a pool
-abbrev pub with_given : ℕ → ℕ → ℕ → List (List ℕ) → List (List ℕ)
-with_given vip version pool given = slice_set given vip (slice_set (slice_index_or given vip []) version pool)
+-- a number names a pool from now on
+abbrev pub with_named : ℕ → ℕ → ℕ → List (List ℕ) → List (List ℕ)
+with_named vip version pool named = slice_set named vip (slice_set (slice_index_or named vip []) version pool)
 
 -- ---- servers
 
 -- the servers of the pool that an update gives
-abbrev pub update_pool : Config → Update → List ℕ
+abbrev pub update_pool : Config → PoolUpdate → List ℕ
 update_pool k u = unwrap_or (pool_of k.pools u.vip u.pool) []
 
 abbrev pub is_down : List ℕ → ℕ → Bool
@@ -71,16 +64,16 @@ is_down down server = list_any (nat_eq server) down
 
 -- the server of a key under a version
 abbrev pub server_for : Config → List (List ℕ) → KeyView → ℕ → ℕ
-server_for k given key version = unwrap_or (server_of k.pools (given_at given key.vip version) key) 0
+server_for k named key version = unwrap_or (server_of k.pools (named_at named key.vip version) key) 0
 
 -- the answer to an opener of the key under a version
 abbrev pub verdict_under : Config → List (List ℕ) → List ℕ → KeyView → ℕ → Verdict
-verdict_under k given down key version =
-    let server = server_for k given key version in verdict_by (is_down down server) server version (given_at given key.vip version)
+verdict_under k named down key version =
+    let server = server_for k named key version in verdict_by (is_down down server) server version (named_at named key.vip version)
 
 abbrev pub verdict_of : Config → List (List ℕ) → List ℕ → KeyView → Option ℕ → Verdict
-verdict_of k given down key None = NoPlace
-verdict_of k given down key (Some version) = verdict_under k given down key version
+verdict_of k named down key None = NoPlace
+verdict_of k named down key (Some version) = verdict_under k named down key version
 
 -- ---- whether a reserved entry is withdrawn
 
@@ -90,7 +83,7 @@ reply_if down reply = if down then Some reply else None
 
 abbrev pub dead_reply : Config → ControllerView → Aim → Option Reply
 dead_reply k c (aim.Held h) =
-    reply_if (not (is_registered h.key c.book.entries) && is_down c.down (server_for k c.given h.key (learned c.vips h.key.vip)))
+    reply_if (not (is_registered h.key c.book.entries) && is_down c.down (server_for k c.named h.key (learned c.vips h.key.vip)))
     (record { held = h; version = Some (learned c.vips h.key.vip) })
 dead_reply k c a = None
 

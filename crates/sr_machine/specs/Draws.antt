@@ -17,28 +17,28 @@ use Rattle.sr_machine.specs.declared.job.Job.{Job}
 use Rattle.sr_machine.specs.declared.job.Job.TheVariants as job
 use Rattle.sr_machine.specs.declared.reply.Reply.{Reply}
 use Rattle.sr_machine.specs.declared.store.Store.TheVariants as store
-use Rattle.sr_machine.specs.declared.update.Update.{Update}
+use Rattle.sr_machine.specs.declared.pool_update.PoolUpdate.{PoolUpdate}
 use Rattle.sr_machine.specs.declared.wait.Wait.TheVariants as wait
 use Rattle.sr_machine.specs.declared.why.Why.{Why}
 use Rattle.sr_machine.specs.declared.why.Why.TheVariants as why
 
 -- ---- the line
 
-abbrev pub phase_line : Update → ℕ → Phase → Line
+abbrev pub phase_line : PoolUpdate → ℕ → Phase → Line
 phase_line u t Steady = line.Finished t u.vip
 phase_line u t Recording = line.Recorded t u.vip
 phase_line u t Holding = line.Hold t u.vip
 phase_line u t Transit = line.Switched t u.vip u.pool
 
 abbrev pub answer_line : Config → ControllerView → Reply → ℕ → Line
-answer_line k c r t = line.Answer t r.held.pipe r.held.nth r.held.key (verdict_of k c.given c.down r.held.key r.version)
+answer_line k c r t = line.Answer t r.held.pipe r.held.nth r.held.key (verdict_of k c.named c.down r.held.key r.version)
 
 -- the line whose tick was drawn, if there is one
 abbrev pub draw_line : Config → ControllerView → Draw → ℕ → Option Line
 draw_line k c (Grace w) t = None
 draw_line k c (Refused change) t = Some (line.Refused t change)
 draw_line k c (TakenDown server) t = Some (line.TakenDown t server)
-draw_line k c (Given u) t = Some (line.Given t u.vip u.new u.pool)
+draw_line k c (Given u) t = Some (line.Given t u.vip u.given u.pool)
 draw_line k c (Comes u p) t = Some (phase_line u t p)
 draw_line k c (Reserved p) t = Some (line.Reserved t p.key p.place)
 draw_line k c (Placed p) t = Some (line.Placed t p.key p.place)
@@ -67,7 +67,7 @@ abbrev pub sweeping : List Entry → ℕ → ℕ → ℕ → Job
 sweeping entries from ms number = sweep_job from ms (placed_from number entries)
 
 -- the phases that are told before their store, and those after it
-abbrev pub phase_job : Update → Phase → Job
+abbrev pub phase_job : PoolUpdate → Phase → Job
 phase_job u Steady = job.Draw (Grace (wait.Comes u Steady))
 phase_job u Recording = job.Store (store.Vip u Recording)
 phase_job u Holding = job.Store (store.Vip u Holding)

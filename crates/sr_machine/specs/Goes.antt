@@ -19,7 +19,7 @@ use Rattle.sr_machine.specs.declared.job.Job.TheVariants.{Free, Draw, Store, Pas
 use Rattle.sr_machine.specs.declared.put.Put.{Put}
 use Rattle.sr_machine.specs.declared.reply.Reply.{Reply}
 use Rattle.sr_machine.specs.declared.store.Store.TheVariants as store
-use Rattle.sr_machine.specs.declared.update.Update.{Update}
+use Rattle.sr_machine.specs.declared.pool_update.PoolUpdate.{PoolUpdate}
 use Rattle.sr_machine.specs.declared.wait.Wait.{Wait}
 use Rattle.sr_machine.specs.declared.wait.Wait.TheVariants as wait
 use Rattle.sr_machine.specs.declared.why.Why.{Why}
@@ -37,8 +37,8 @@ pub data Goes (k : Config) (c : ControllerView) (x : ℕ) : Job → Job → Type
   waits : (w : Wait) → Goes k c x (Draw (draw.Grace w)) (Pass x 0 w)
   refused : (change : ℕ) → Goes k c x (Draw (draw.Refused change)) Free
   taken_down : (server : ℕ) → Goes k c x (Draw (draw.TakenDown server)) (Store (store.Down server))
-  given : (u : Update) → Goes k c x (Draw (draw.Given u)) (Draw (draw.Comes u Recording))
-  comes : (u : Update) (p : Phase) → Goes k c x (Draw (draw.Comes u p)) (phase_job u p)
+  given : (u : PoolUpdate) → Goes k c x (Draw (draw.Given u)) (Draw (draw.Comes u Recording))
+  comes : (u : PoolUpdate) (p : Phase) → Goes k c x (Draw (draw.Comes u p)) (phase_job u p)
   reserved : (p : Put) → Goes k c x (Draw (draw.Reserved p)) (Store (store.Reserved p))
   placed : (p : Put) → Goes k c x (Draw (draw.Placed p)) (Draw (draw.Grace (wait.Live p)))
   cleared : (key : KeyView) (place : Place) (w : Why) → Goes k c x (Draw (draw.Cleared key place w)) (cleared_job key w)
@@ -49,12 +49,12 @@ pub data Goes (k : Config) (c : ControllerView) (x : ℕ) : Job → Job → Type
   swept : (from ms : ℕ) → Goes k c x (Draw (draw.Swept from ms)) Free
   -- stores
   downed : (server : ℕ) → Goes k c x (Store (store.Down server)) Free
-  member_next : (u : Update) (index : ℕ) → is_last_member k u index ≡ false → Goes k c x (Store (store.Member u index)) (Store (store.Member u (index + 1)))
-  member_last : (u : Update) (index : ℕ) → is_last_member k u index ≡ true → Goes k c x (Store (store.Member u index)) (Store (store.Head u))
-  head : (u : Update) → Goes k c x (Store (store.Head u)) (Draw (draw.Given u))
-  phase_stored : (u : Update) (p : Phase) → Goes k c x (Store (store.Vip u p)) (Draw (vip_draw u p))
-  filter_next : (u : Update) (index : ℕ) → is_last_filter k.layout index ≡ false → Goes k c x (Store (store.Filter u index)) (Store (store.Filter u (index + 1)))
-  filter_last : (u : Update) (index : ℕ) → is_last_filter k.layout index ≡ true → Goes k c x (Store (store.Filter u index)) Free
+  member_next : (u : PoolUpdate) (index : ℕ) → is_last_member k u index ≡ false → Goes k c x (Store (store.Member u index)) (Store (store.Member u (index + 1)))
+  member_last : (u : PoolUpdate) (index : ℕ) → is_last_member k u index ≡ true → Goes k c x (Store (store.Member u index)) (Store (store.Head u))
+  head : (u : PoolUpdate) → Goes k c x (Store (store.Head u)) (Draw (draw.Given u))
+  phase_stored : (u : PoolUpdate) (p : Phase) → Goes k c x (Store (store.Vip u p)) (Draw (vip_draw u p))
+  filter_next : (u : PoolUpdate) (index : ℕ) → is_last_filter k.layout index ≡ false → Goes k c x (Store (store.Filter u index)) (Store (store.Filter u (index + 1)))
+  filter_last : (u : PoolUpdate) (index : ℕ) → is_last_filter k.layout index ≡ true → Goes k c x (Store (store.Filter u index)) Free
   reserve_stored : (p : Put) → Goes k c x (Store (store.Reserved p)) (Draw (draw.Grace (wait.Judge p)))
   judged_live : (p : Put) → is_withdrawn k c p ≡ false → Goes k c x (Store (store.Judge p)) (Draw (draw.Placed p))
   judged_withdrawn : (p : Put) → is_withdrawn k c p ≡ true

@@ -5,9 +5,9 @@ use Rattle.sr_base.specs.declared.vip_word.VipWord.{VipWord}
 use Rattle.sr_law.specs.declared.line.Line.{Line}
 use Rattle.sr_shadow.specs.Book.{with_left, with_retired, with_settled, with_swept, with_taken}
 use Rattle.sr_machine.specs.Config.{Config}
-use Rattle.sr_machine.specs.Deciding.{is_withdrawn, ring_count, version_for, with_given}
+use Rattle.sr_machine.specs.Deciding.{is_withdrawn, ring_count, version_for, with_named}
 use Rattle.sr_machine.specs.Draws.{draw_job, draw_line, sweeping, with_line}
-use Rattle.sr_machine.specs.Numbers.{NumberRows, with_state}
+use Rattle.sr_update.specs.Numbers.{NumberRows, with_state}
 use Rattle.sr_machine.specs.Reads.{read_flag}
 use Rattle.sr_machine.specs.Stages.{ring_cell}
 use Rattle.sr_machine.specs.Stores.{is_last_filter, phase_word, store_job, store_name, store_value}
@@ -20,13 +20,13 @@ use Rattle.sr_machine.specs.declared.held_opener.HeldOpener.{HeldOpener}
 use Rattle.sr_machine.specs.declared.job.Job.{Job}
 use Rattle.sr_machine.specs.declared.job.Job.TheVariants.{Free, Draw, Store, Pass, Drain, Look, Hit}
 use Rattle.sr_machine.specs.declared.name.Name.TheVariants as name
-use Rattle.sr_machine.specs.declared.number_state.NumberState.TheVariants as state
+use Rattle.sr_update.specs.declared.number_state.NumberState.TheVariants as state
 use Rattle.sr_machine.specs.declared.op.Op.{Op}
 use Rattle.sr_machine.specs.declared.op.Op.TheVariants.{Adds, Loads, Stores, Swaps}
 use Rattle.sr_machine.specs.declared.put.Put.{Put}
 use Rattle.sr_machine.specs.declared.ring_count.RingCount.{RingCount}
 use Rattle.sr_machine.specs.declared.store.Store.TheVariants as store
-use Rattle.sr_machine.specs.declared.update.Update.{Update}
+use Rattle.sr_machine.specs.declared.pool_update.PoolUpdate.{PoolUpdate}
 use Rattle.sr_machine.specs.declared.wait.Wait.{Wait}
 use Rattle.sr_machine.specs.declared.wait.Wait.TheVariants as wait
 
@@ -78,24 +78,24 @@ released done (wait.Release vip version) numbers = if done then with_state vip v
 released done w numbers = numbers
 
 -- the replaced number of an update that is over drains
-abbrev pub drained : Bool → Update → NumberRows → NumberRows
-drained done u numbers = if done then with_state u.vip u.old state.Draining numbers else numbers
+abbrev pub drained : Bool → PoolUpdate → NumberRows → NumberRows
+drained done u numbers = if done then with_state u.vip u.replaced state.Draining numbers else numbers
 
 abbrev pub numbers_next : Config → ControllerView → Job → ℕ → NumberRows
-numbers_next k c (Draw (draw.Given u)) x = with_state u.vip u.new state.Current c.numbers
+numbers_next k c (Draw (draw.Given u)) x = with_state u.vip u.given state.Current c.numbers
 numbers_next k c (Store (store.Filter u index)) x = drained (is_last_filter k.layout index) u c.numbers
 numbers_next k c (Drain pipe count w) x = released (is_wait_done k.layout pipe count x) w c.numbers
 numbers_next k c j x = c.numbers
 
-abbrev pub given_next : ControllerView → Job → List (List ℕ)
-given_next c (Draw (draw.Given u)) = with_given u.vip u.new u.pool c.given
-given_next c j = c.given
+abbrev pub named_next : ControllerView → Job → List (List ℕ)
+named_next c (Draw (draw.Given u)) = with_named u.vip u.given u.pool c.named
+named_next c j = c.named
 
 abbrev pub vips_next : ControllerView → Job → List VipWord
 vips_next c (Store (store.Vip u p)) = slice_set c.vips u.vip (phase_word u p)
 vips_next c j = c.vips
 
-abbrev pub update_next : Config → ControllerView → Job → Option Update
+abbrev pub update_next : Config → ControllerView → Job → Option PoolUpdate
 update_next k c (Store (store.Filter u index)) = if is_last_filter k.layout index then None else c.update
 update_next k c j = c.update
 
@@ -149,7 +149,7 @@ job_after k c j x = record c {
   rings = rings_next k c j x;
   held = held_next k c j x;
   numbers = numbers_next k c j x;
-  given = given_next c j;
+  named = named_next c j;
   vips = vips_next c j;
   down = down_next c j;
   update = update_next k c j;

@@ -10,7 +10,6 @@ pub mod Goes
 pub mod Jobs
 pub mod Keeping
 pub mod Names
-pub mod Numbers
 pub mod Opening
 pub mod Ops
 pub mod Pipe
@@ -23,4 +22,3 @@ pub mod Taking
 pub mod Telling
 pub mod Turning
 pub mod Waiting
-pub mod Waits

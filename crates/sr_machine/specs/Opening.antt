@@ -4,11 +4,12 @@ use Rattle.std.specs.List.{range_with_len}
 use Rattle.sr_base.specs.RowHead.{packed_head}
 use Rattle.sr_base.specs.declared.change.Change.{Change}
 use Rattle.sr_base.specs.declared.change.What.TheVariants.{Give, TakeDown}
-use Rattle.sr_law.specs.Pools.{gives_to, pool_of}
+use Rattle.sr_law.specs.Pools.{pool_of}
 use Rattle.sr_law.specs.declared.line.Line.{Line}
 use Rattle.sr_law.specs.declared.line.Line.TheVariants.{Given}
 use Rattle.sr_machine.specs.Config.{Config}
-use Rattle.sr_machine.specs.Numbers.{opening_rows}
+use Rattle.sr_update.specs.Numbers.{opening_rows}
+use Rattle.sr_update.specs.Updates.{gives_after}
 use Rattle.sr_machine.specs.Pipe.{fresh_pipe}
 use Rattle.sr_machine.specs.Reads.{steady}
 use Rattle.sr_machine.specs.declared.controller_view.ControllerView.{ControllerView}
@@ -17,16 +18,7 @@ use Rattle.sr_machine.specs.declared.name.Name.{Name}
 use Rattle.sr_machine.specs.declared.name.Name.TheVariants.{Tick, Head, Member}
 use Rattle.sr_machine.specs.declared.outage.Outage.{Outage}
 use Rattle.sr_machine.specs.declared.pipe_view.PipeView.{PipeView}
-use Rattle.sr_machine.specs.declared.pool_change.PoolChange.{PoolChange}
-
--- the changes of pools among these, where those before them are given; the K-th of a virtual address gives it its pool K + 1
-abbrev pub pool_changes : List Change → List Change → List PoolChange
-pool_changes earlier [] = []
-pool_changes earlier (change ∷ rest) =
-    elim change.what [
-      | Give vip pool ↦ record { at_ms = change.at_ms; position = length earlier; vip = vip; pool = length (gives_to vip earlier) + 2 } ∷ pool_changes (earlier ++ change ∷ []) rest
-      | TakeDown server ↦ pool_changes (earlier ++ change ∷ []) rest
-    ]
+use Rattle.sr_update.specs.declared.give_change.GiveChange.{GiveChange}
 
 -- the servers that are to be taken down
 abbrev pub outages_in : List Change → List Outage
@@ -35,8 +27,8 @@ outages_in (change ∷ rest) =
     elim change.what [ Give vip pool ↦ outages_in rest | TakeDown server ↦ record { at_ms = change.at_ms; server = server } ∷ outages_in rest ]
 
 -- number 0 of each virtual address has its pool 1
-abbrev pub opening_given : Config → List (List ℕ)
-opening_given k = replicate k.layout.vips (1 ∷ replicate (k.layout.shape.versions - 1) 0)
+abbrev pub opening_named : Config → List (List ℕ)
+opening_named k = replicate k.layout.vips (1 ∷ replicate (k.layout.shape.versions - 1) 0)
 
 -- and this line, by the ticks from 1 on
 abbrev pub opening_line : ℕ → Line
@@ -47,7 +39,7 @@ opening_lines k = map opening_line (range_with_len 0 k.layout.vips)
 
 unfoldable pub opening_controller : Config → ControllerView
 opening_controller k = record {
-  gives = pool_changes [] k.changes;
+  gives = gives_after [] k.changes;
   outages = outages_in k.changes;
   clock = None;
   refusing = false;
@@ -55,7 +47,7 @@ opening_controller k = record {
   rings = replicate k.layout.shape.pipes (record { words = 0; punts = 0 });
   held = [];
   numbers = opening_rows k.layout;
-  given = opening_given k;
+  named = opening_named k;
   vips = replicate k.layout.vips (steady 0);
   down = [];
   update = None;

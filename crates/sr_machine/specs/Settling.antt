@@ -6,23 +6,23 @@ use Rattle.sr_shadow.specs.declared.entry.Entry.{Entry}
 use Rattle.sr_machine.specs.Core.{Core, step_event}
 use Rattle.sr_machine.specs.Deciding.{vip_at}
 use Rattle.sr_machine.specs.Turning.{turned}
-use Rattle.sr_machine.specs.Waits.{first_before_finish, first_before_hold}
+use Rattle.sr_update.specs.Waits.{first_before_finish, first_before_hold}
 use Rattle.sr_machine.specs.declared.controller_view.ControllerView.{ControllerView}
 use Rattle.sr_machine.specs.declared.event.Event.TheVariants.{Refuse}
 use Rattle.sr_machine.specs.declared.settled.Settled.{Settled}
 use Rattle.sr_machine.specs.declared.settled.Settled.TheVariants.{Quiet, Waiting}
 use Rattle.sr_machine.specs.declared.turn.Turn.{Turn}
 use Rattle.sr_machine.specs.declared.turn.Turn.TheVariants as turn
-use Rattle.sr_machine.specs.declared.update.Update.{Update}
+use Rattle.sr_machine.specs.declared.pool_update.PoolUpdate.{PoolUpdate}
 
 -- the first key for which an update waits in a phase
-abbrev pub awaited_in : ControllerView → Update → Phase → Option Entry
+abbrev pub awaited_in : ControllerView → PoolUpdate → Phase → Option Entry
 awaited_in c u Steady = None
 awaited_in c u Recording = first_before_hold u.vip c.mark c.book.entries
 awaited_in c u Holding = None
-awaited_in c u Transit = first_before_finish u.vip u.old c.book.entries
+awaited_in c u Transit = first_before_finish u.vip u.replaced c.book.entries
 
-abbrev pub awaited_by : ControllerView → Option Update → Option Entry
+abbrev pub awaited_by : ControllerView → Option PoolUpdate → Option Entry
 awaited_by c None = None
 awaited_by c (Some u) = awaited_in c u (vip_at c.vips u.vip).phase
 

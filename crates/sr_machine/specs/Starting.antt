@@ -13,29 +13,30 @@ use Rattle.sr_shadow.specs.declared.entry.Entry.{Entry}
 use Rattle.sr_shadow.specs.declared.plan.Plan.{Plan}
 use Rattle.sr_shadow.specs.declared.plan.Plan.TheVariants as plan
 use Rattle.sr_machine.specs.Config.{Config}
-use Rattle.sr_machine.specs.Deciding.{is_due, vip_at}
-use Rattle.sr_machine.specs.Numbers.{first_drained, least_free}
-use Rattle.sr_machine.specs.Waits.{first_before_finish, first_before_hold}
+use Rattle.sr_machine.specs.Deciding.{vip_at}
+use Rattle.sr_update.specs.Numbers.{first_drained, least_free}
+use Rattle.sr_update.specs.Updates.{has_come}
+use Rattle.sr_update.specs.Waits.{first_before_finish, first_before_hold}
 use Rattle.sr_machine.specs.declared.controller_view.ControllerView.{ControllerView}
 use Rattle.sr_machine.specs.declared.draw.Draw.TheVariants as draw
 use Rattle.sr_machine.specs.declared.held_opener.HeldOpener.{HeldOpener}
 use Rattle.sr_machine.specs.declared.job.Job.{Job}
 use Rattle.sr_machine.specs.declared.job.Job.TheVariants.{Free, Draw, Store, Look}
 use Rattle.sr_machine.specs.declared.outage.Outage.{Outage}
-use Rattle.sr_machine.specs.declared.pool_change.PoolChange.{PoolChange}
+use Rattle.sr_update.specs.declared.give_change.GiveChange.{GiveChange}
 use Rattle.sr_machine.specs.declared.put.Aim.{Aim}
 use Rattle.sr_machine.specs.declared.put.Aim.TheVariants as aim
 use Rattle.sr_machine.specs.declared.put.Put.{Put}
 use Rattle.sr_machine.specs.declared.store.Store.TheVariants as store
-use Rattle.sr_machine.specs.declared.update.Update.{Update}
+use Rattle.sr_machine.specs.declared.pool_update.PoolUpdate.{PoolUpdate}
 use Rattle.sr_machine.specs.declared.wait.Wait.TheVariants as wait
 
 -- What a beginning decides: the job, and what else it changes.
 pub record Start : Type 0 where
-  pub gives : List PoolChange
+  pub gives : List GiveChange
   pub outages : List Outage
   pub refusing : Bool
-  pub update : Option Update
+  pub update : Option PoolUpdate
   pub mark : ℕ
   pub job : Job
 
@@ -46,10 +47,10 @@ with_job c j = record { gives = c.gives; outages = c.outages; refusing = c.refus
 -- ---- a refusal
 
 -- the first change of a pool is dropped, and refused
-abbrev pub refusal_start : ControllerView → PoolChange → List PoolChange → Start
+abbrev pub refusal_start : ControllerView → GiveChange → List GiveChange → Start
 refusal_start c g rest = record (with_job c (Draw (draw.Refused g.position))) { gives = rest; refusing = false }
 
-abbrev pub refusal_of : ControllerView → Bool → List PoolChange → Option Start
+abbrev pub refusal_of : ControllerView → Bool → List GiveChange → Option Start
 refusal_of c true (g ∷ rest) = Some (refusal_start c g rest)
 refusal_of c refusing gives = None
 
@@ -64,7 +65,7 @@ outage_start c o rest = record (with_job c (Draw (draw.TakenDown o.server))) { o
 
 abbrev pub outage_of : ControllerView → List Outage → Option Start
 outage_of c [] = None
-outage_of c (o ∷ rest) = if is_due c.clock o.at_ms then Some (outage_start c o rest) else None
+outage_of c (o ∷ rest) = if has_come o.at_ms c.clock then Some (outage_start c o rest) else None
 
 abbrev pub outage_act : ControllerView → Option Start
 outage_act c = outage_of c c.outages
@@ -72,27 +73,27 @@ outage_act c = outage_of c c.outages
 -- ---- an update
 
 -- the update in a placing goes on once it waits for nothing
-abbrev pub going_on : ControllerView → Update → Phase → Option Job
+abbrev pub going_on : ControllerView → PoolUpdate → Phase → Option Job
 going_on c u Steady = None
 going_on c u Recording = if is_none (first_before_hold u.vip c.mark c.book.entries) then Some (Draw (draw.Comes u Holding)) else None
 going_on c u Holding = None
-going_on c u Transit = if is_none (first_before_finish u.vip u.old c.book.entries) then Some (Store (store.Vip u Steady)) else None
+going_on c u Transit = if is_none (first_before_finish u.vip u.replaced c.book.entries) then Some (Store (store.Vip u Steady)) else None
 
 -- the update that gives a virtual address this pool under this number
-abbrev pub update_to : ControllerView → PoolChange → ℕ → Update
-update_to c g number = record { vip = g.vip; old = (vip_at c.vips g.vip).cur; new = number; pool = g.pool }
+abbrev pub update_to : ControllerView → GiveChange → ℕ → PoolUpdate
+update_to c g number = record { vip = g.vip; replaced = (vip_at c.vips g.vip).cur; given = number; pool = g.pool }
 
 -- it begins with the first server of its pool
-abbrev pub beginning : ControllerView → List PoolChange → Update → Start
+abbrev pub beginning : ControllerView → List GiveChange → PoolUpdate → Start
 beginning c rest u = record (with_job c (Store (store.Member u 0))) { gives = rest; update = Some u; mark = 0 }
 
 -- the first change of a pool begins where it is due and its virtual address has a free number
-abbrev pub change_of : ControllerView → List PoolChange → Option Start
+abbrev pub change_of : ControllerView → List GiveChange → Option Start
 change_of c [] = None
 change_of c (g ∷ rest) =
-    if is_due c.clock g.at_ms then option_map (λ number. beginning c rest (update_to c g number)) (least_free g.vip c.numbers) else None
+    if has_come g.at_ms c.clock then option_map (λ number. beginning c rest (update_to c g number)) (least_free g.vip c.numbers) else None
 
-abbrev pub update_of : ControllerView → Option Update → Option Start
+abbrev pub update_of : ControllerView → Option PoolUpdate → Option Start
 update_of c None = change_of c c.gives
 update_of c (Some u) = option_map (with_job c) (going_on c u (vip_at c.vips u.vip).phase)
 

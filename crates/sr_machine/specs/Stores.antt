@@ -21,7 +21,7 @@ use Rattle.sr_machine.specs.declared.put.Put.{Put}
 use Rattle.sr_machine.specs.declared.reply.Reply.{Reply}
 use Rattle.sr_machine.specs.declared.store.Store.{Store}
 use Rattle.sr_machine.specs.declared.store.Store.TheVariants.{Down, Member, Head, Vip, Filter, Reserved, Judge, Empty}
-use Rattle.sr_machine.specs.declared.update.Update.{Update}
+use Rattle.sr_machine.specs.declared.pool_update.PoolUpdate.{PoolUpdate}
 use Rattle.sr_machine.specs.declared.wait.Wait.TheVariants as wait
 use Rattle.sr_machine.specs.declared.why.Why.TheVariants as why
 
@@ -29,8 +29,8 @@ use Rattle.sr_machine.specs.declared.why.Why.TheVariants as why
 
 abbrev pub store_name : Store → Name
 store_name (Down server) = name.Down server
-store_name (Member u index) = name.Member u.vip u.new index
-store_name (Head u) = name.Head u.vip u.new
+store_name (Member u index) = name.Member u.vip u.given index
+store_name (Head u) = name.Head u.vip u.given
 store_name (Vip u p) = name.Vip u.vip
 store_name (Filter u index) = name.Filter index
 store_name (Reserved p) = name.Entry p.place
@@ -40,11 +40,11 @@ store_name (Empty key place w) = name.Entry place
 -- ---- what
 
 -- the word of an update's virtual address in a phase
-abbrev pub phase_word : Update → Phase → VipWord
-phase_word u Steady = steady u.new
-phase_word u Recording = record { phase = Recording; cur = u.old; next = u.new }
-phase_word u Holding = record { phase = Holding; cur = u.old; next = u.new }
-phase_word u Transit = record { phase = Transit; cur = u.old; next = u.new }
+abbrev pub phase_word : PoolUpdate → Phase → VipWord
+phase_word u Steady = steady u.given
+phase_word u Recording = record { phase = Recording; cur = u.replaced; next = u.given }
+phase_word u Holding = record { phase = Holding; cur = u.replaced; next = u.given }
+phase_word u Transit = record { phase = Transit; cur = u.replaced; next = u.given }
 
 -- a reserved entry becomes live, or is given up
 abbrev pub judged_word : Bool → LayoutView → Put → ℕ → ℕ
@@ -63,7 +63,7 @@ store_value k c (Empty key place w) = 0
 -- ---- the job after it
 
 -- this was the last of the new version's servers
-abbrev pub is_last_member : Config → Update → ℕ → Bool
+abbrev pub is_last_member : Config → PoolUpdate → ℕ → Bool
 is_last_member k u index = not (nat_lt (index + 1) (length (update_pool k u)))
 
 -- this was the last word of the transit filter
@@ -71,7 +71,7 @@ abbrev pub is_last_filter : LayoutView → ℕ → Bool
 is_last_filter l index = not (nat_lt (index + 1) (filter_words l.shape))
 
 -- the phases that are told before their store, and those after it
-abbrev pub vip_draw : Update → Phase → Draw
+abbrev pub vip_draw : PoolUpdate → Phase → Draw
 vip_draw u Steady = draw.Comes u Steady
 vip_draw u Recording = draw.Grace (wait.Comes u Recording)
 vip_draw u Holding = draw.Grace (wait.Comes u Holding)

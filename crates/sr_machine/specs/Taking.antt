@@ -7,14 +7,14 @@ use Rattle.sr_base.specs.declared.ring_word.RingWord.{RingWord}
 use Rattle.sr_shadow.specs.Book.{with_closed, with_taken}
 use Rattle.sr_machine.specs.Config.{Config}
 use Rattle.sr_machine.specs.Deciding.{ring_count}
-use Rattle.sr_machine.specs.Numbers.{NumberRows, is_current, state_of}
+use Rattle.sr_update.specs.Numbers.{NumberRows, is_current, state_of}
 use Rattle.sr_machine.specs.Reads.{read_report}
 use Rattle.sr_shadow.specs.declared.book.Book.{Book}
 use Rattle.sr_machine.specs.declared.controller_view.ControllerView.{ControllerView}
 use Rattle.sr_machine.specs.declared.held_opener.HeldOpener.{HeldOpener}
 use Rattle.sr_machine.specs.declared.job.Job.{Job}
 use Rattle.sr_machine.specs.declared.job.Job.TheVariants as job
-use Rattle.sr_machine.specs.declared.number_state.NumberState.{NumberState}
+use Rattle.sr_update.specs.declared.number_state.NumberState.{NumberState}
 use Rattle.sr_machine.specs.declared.ring_count.RingCount.{RingCount}
 use Rattle.sr_machine.specs.declared.wait.Wait.TheVariants.{Retire}
 

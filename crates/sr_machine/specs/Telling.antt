@@ -1,11 +1,11 @@
 -- What the controller is told: the time, and to refuse a change.
 use Rattle.std.specs.Prelude.{ℕ, ◌&&◌, nat_le, not, is_none, Bool, true, false, List, [], ◌∷◌, Option, Some, None, if◌then◌else◌}
-use Rattle.sr_machine.specs.Deciding.{is_due}
-use Rattle.sr_machine.specs.Numbers.{NumberRows, first_drained, least_free}
+use Rattle.sr_update.specs.Numbers.{NumberRows, first_drained, least_free}
+use Rattle.sr_update.specs.Updates.{has_come}
 use Rattle.sr_machine.specs.declared.controller_view.ControllerView.{ControllerView}
 use Rattle.sr_machine.specs.declared.job.Job.{Job}
 use Rattle.sr_machine.specs.declared.job.Job.TheVariants.{Free, Look}
-use Rattle.sr_machine.specs.declared.pool_change.PoolChange.{PoolChange}
+use Rattle.sr_update.specs.declared.give_change.GiveChange.{GiveChange}
 
 -- the clock doesn't fall
 abbrev pub is_no_earlier : Option ℕ → ℕ → Bool
@@ -22,9 +22,9 @@ is_at_leisure (Look pipe) = true
 is_at_leisure j = false
 
 -- the first change of a pool that is due finds no free number of its virtual address: this is that change
-abbrev pub full_change : Option ℕ → NumberRows → List PoolChange → Option PoolChange
+abbrev pub full_change : Option ℕ → NumberRows → List GiveChange → Option GiveChange
 full_change clock numbers [] = None
-full_change clock numbers (g ∷ rest) = if is_due clock g.at_ms && is_none (least_free g.vip numbers) then Some g else None
+full_change clock numbers (g ∷ rest) = if has_come g.at_ms clock && is_none (least_free g.vip numbers) then Some g else None
 
 -- nothing that the controller does could free a number for it
 abbrev pub may_refuse : ControllerView → Bool

@@ -19,7 +19,7 @@ use Rattle.sr_machine.specs.declared.draw.Draw.TheVariants as draw
 use Rattle.sr_machine.specs.declared.job.Job.{Job}
 use Rattle.sr_machine.specs.declared.job.Job.TheVariants as job
 use Rattle.sr_machine.specs.declared.op.Op.{Op}
-use Rattle.sr_machine.specs.declared.pool_change.PoolChange.{PoolChange}
+use Rattle.sr_update.specs.declared.give_change.GiveChange.{GiveChange}
 use Rattle.sr_machine.specs.declared.put.Aim.{Aim}
 use Rattle.sr_machine.specs.declared.put.Aim.TheVariants as aim
 use Rattle.sr_machine.specs.declared.store.Store.{Store}
@@ -81,7 +81,7 @@ drain_act done (wait.Release vip version) x = if done then act.Released else (if
 drain_act done w x = if x == 0 then act.Drained else act.Took
 
 -- nothing is to be done: what is waited for, if anything is
-abbrev pub rest_by : Option Entry → Option PoolChange → Turn
+abbrev pub rest_by : Option Entry → Option GiveChange → Turn
 rest_by (Some e) full = NoRoom e.key
 rest_by None (Some g) = VersionsFull g.vip
 rest_by None None = Idle

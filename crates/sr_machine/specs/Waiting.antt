@@ -14,7 +14,7 @@ use Rattle.sr_machine.specs.declared.put.Aim.{Aim}
 use Rattle.sr_machine.specs.declared.put.Aim.TheVariants as aim
 use Rattle.sr_machine.specs.declared.put.Put.{Put}
 use Rattle.sr_machine.specs.declared.store.Store.TheVariants as store
-use Rattle.sr_machine.specs.declared.update.Update.{Update}
+use Rattle.sr_machine.specs.declared.pool_update.PoolUpdate.{PoolUpdate}
 use Rattle.sr_machine.specs.declared.wait.Wait.{Wait}
 use Rattle.sr_machine.specs.declared.wait.Wait.TheVariants.{Judge, Live, Retire, Comes, Release}
 use Rattle.sr_machine.specs.declared.why.Why.TheVariants as why
@@ -30,7 +30,7 @@ abbrev pub is_under_way : ℕ → ℕ → Bool
 is_under_way grace x = nat_lt 0 x && nat_lt x grace
 
 -- every pipe has passed: the reports are taken; an update in Holding or over goes on at once
-abbrev pub passed_phase : Update → Phase → Job
+abbrev pub passed_phase : PoolUpdate → Phase → Job
 passed_phase u Steady = job.Store (store.Filter u 0)
 passed_phase u Recording = job.Drain 0 0 (Comes u Recording)
 passed_phase u Holding = job.Store (store.Vip u Transit)
@@ -64,7 +64,7 @@ live_job vips entries p aim.Pending = job.Free
 live_job vips entries p (aim.Held h) = job.Draw (draw.Answer (record { held = h; version = Some (version_for vips entries p.key) }))
 live_job vips entries p (aim.Move from planned) = job.Store (store.Empty p.key from why.Source)
 
-abbrev pub waited_phase : Update → Phase → Job
+abbrev pub waited_phase : PoolUpdate → Phase → Job
 waited_phase u Steady = job.Store (store.Filter u 0)
 waited_phase u Recording = job.Free
 waited_phase u Holding = job.Store (store.Vip u Transit)

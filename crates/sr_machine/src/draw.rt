@@ -1,4 +1,4 @@
-use crate::{Put, Reply, Update, Wait, Why};
+use crate::{Put, Reply, PoolUpdate, Wait, Why};
 use sr_base::{Key, Phase, Place, Version};
 
 /// What the controller draws a tick for.
@@ -10,11 +10,11 @@ pub enum Draw {
     /// A server is taken down.
     TakenDown(u32),
     /// A version names its pool.
-    Given(Update),
+    Given(PoolUpdate),
     /// An update comes to a phase.
     Comes {
         /// The update.
-        update: Update,
+        update: PoolUpdate,
         /// The phase.
         phase: Phase,
     },

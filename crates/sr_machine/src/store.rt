@@ -1,4 +1,4 @@
-use crate::{Put, Update, Why};
+use crate::{Put, PoolUpdate, Why};
 use sr_base::{Key, Phase, Place};
 
 /// What the controller stores.
@@ -8,23 +8,23 @@ pub enum Store {
     /// A server of an update's new version.
     Member {
         /// The update.
-        update: Update,
+        update: PoolUpdate,
         /// The server's place in the pool, from 0.
         index: u8,
     },
     /// The head of an update's new version.
-    Head(Update),
+    Head(PoolUpdate),
     /// The word of an update's virtual address.
     Vip {
         /// The update.
-        update: Update,
+        update: PoolUpdate,
         /// The phase that it tells from then on.
         phase: Phase,
     },
     /// A word of the transit filter is cleared.
     Filter {
         /// The update that is over.
-        update: Update,
+        update: PoolUpdate,
         /// Which word, from 0.
         index: u32,
     },

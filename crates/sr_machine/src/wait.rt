@@ -1,4 +1,4 @@
-use crate::{Put, Update};
+use crate::{Put, PoolUpdate};
 use sr_base::{Key, Phase, Version};
 
 /// What the controller lets each packet in flight pass for, and takes the reports in the rings.
@@ -12,7 +12,7 @@ pub enum Wait {
     /// An update came to a phase, and its word was stored.
     Comes {
         /// The update.
-        update: Update,
+        update: PoolUpdate,
         /// The phase that the word tells.
         phase: Phase,
     },

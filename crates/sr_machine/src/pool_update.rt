@@ -1,13 +1,13 @@
 use sr_base::Version;
 
 /// A change of a virtual address's pool that is under way.
-pub struct Update {
+pub struct PoolUpdate {
     /// The virtual address.
     pub vip: u8,
     /// The version that is replaced.
-    pub old: Version,
+    pub replaced: Version,
     /// The version that comes in its place.
-    pub new: Version,
+    pub given: Version,
     /// The number of the pool of the new version.
     pub pool: u64,
 }
