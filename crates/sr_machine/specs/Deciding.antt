@@ -1,5 +1,5 @@
 -- What the controller reads off its own view.
-use Rattle.std.specs.Prelude.{ℕ, ◌^◌, ◌&&◌, ◌||◌, nat_eq, nat_le, nat_lt, not, sum_by, Bool, false, List, [], slice_index, slice_index_or, slice_set, is_some, unwrap_or, option_map, Option, Some, None, if◌then◌else◌}
+use Rattle.std.specs.Prelude.{ℕ, ◌^◌, ◌&&◌, ◌||◌, nat_eq, nat_lt, not, sum_by, Bool, false, List, [], slice_index, slice_index_or, slice_set, is_some, unwrap_or, option_map, Option, Some, None, if◌then◌else◌}
 use Rattle.std.specs.List.{list_any}
 use Rattle.sr_base.specs.Key.{KeyView}
 use Rattle.sr_base.specs.declared.place.Place.{Place}

@@ -1,5 +1,5 @@
 -- Where the machine begins.
-use Rattle.std.specs.Prelude.{ℕ, ◌+◌, ◌-◌, ◌==◌, false, List, [], ◌∷◌, ◌++◌, length, map, replicate, slice_index, unwrap_or, None, if◌then◌else◌}
+use Rattle.std.specs.Prelude.{ℕ, ◌+◌, ◌-◌, ◌==◌, false, List, [], ◌∷◌, length, map, replicate, slice_index, unwrap_or, None, if◌then◌else◌}
 use Rattle.std.specs.List.{range_with_len}
 use Rattle.sr_base.specs.RowHead.{packed_head}
 use Rattle.sr_base.specs.declared.change.Change.{Change}
@@ -18,7 +18,6 @@ use Rattle.sr_machine.specs.declared.name.Name.{Name}
 use Rattle.sr_machine.specs.declared.name.Name.TheVariants.{Tick, Head, Member}
 use Rattle.sr_machine.specs.declared.outage.Outage.{Outage}
 use Rattle.sr_machine.specs.declared.pipe_view.PipeView.{PipeView}
-use Rattle.sr_update.specs.declared.give_change.GiveChange.{GiveChange}
 
 -- the servers that are to be taken down
 abbrev pub outages_in : List Change → List Outage

@@ -1,4 +1,4 @@
-use crate::{Put, Reply, PoolUpdate, Wait, Why};
+use crate::{PoolUpdate, Put, Reply, Wait, Why};
 use sr_base::{Key, Phase, Place, Version};
 
 /// What the controller draws a tick for.

@@ -1,4 +1,4 @@
-use crate::{Put, PoolUpdate, Why};
+use crate::{PoolUpdate, Put, Why};
 use sr_base::{Key, Phase, Place};
 
 /// What the controller stores.

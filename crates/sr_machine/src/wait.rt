@@ -1,4 +1,4 @@
-use crate::{Put, PoolUpdate};
+use crate::{PoolUpdate, Put};
 use sr_base::{Key, Phase, Version};
 
 /// What the controller lets each packet in flight pass for, and takes the reports in the rings.
