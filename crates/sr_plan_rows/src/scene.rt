@@ -2,8 +2,8 @@ ghost use Rattle.std.specs.Prelude.{◌≡◌, true};
 ghost use Rattle.sr_shadow.specs.Plan.{IsUnplaced};
 
 use sr_base::{Key, Layout, Place, Version};
-use sr_plan::{Plan, plan, plan_plain};
-use sr_shadow::Shadow;
+use sr_plan::{Plan, plan};
+use sr_shadow::{Shadow, plan_plain};
 use std::alloc::{AllocError, Global};
 
 /// A book, and the layout that it was made of.
