@@ -11,7 +11,7 @@ use Rattle.sr_law.specs.declared.clause.Clause.TheVariants as C
 use Rattle.sr_law.specs.declared.line.Line.{Line}
 use Rattle.sr_law.specs.declared.line.Line.TheVariants.{Swept, Retired}
 use Rattle.sr_law.specs.Cause.{meets_cause}
-use Rattle.sr_law.specs.Lawful.{where_met, broken, NoLineBreaks, breach_at, first_broken}
+use Rattle.sr_law.specs.Lawful.{MeetsClauses, where_met, broken, NoLineBreaks, breach_at, first_broken}
 use Rattle.sr_law.specs.Newer.{meets_newer}
 use Rattle.sr_law.specs.Number.{meets_number}
 use Rattle.sr_law.specs.Opening.{is_open}
@@ -32,18 +32,8 @@ pub met_both : (met : Bool) (named : Clause) (next : Option Clause) → met ≡ 
 met_both true named next e n = n
 met_both false named next e n = ap (λ m. where_met m named next) e ∙ n
 
--- what a line that breaks no clause meets
-pub record Meets (setup : SetupView) (endings : List EndingPacket) (before : List Line) (line : Line) : Type 0 where
-  pub order : meets_order setup before line ≡ true
-  pub server : meets_server setup.pools before line ≡ true
-  pub same : meets_same before line ≡ true
-  pub newer : meets_newer before line ≡ true
-  pub number : meets_number setup before line ≡ true
-  pub cause : meets_cause setup before line ≡ true
-  pub retire : meets_retire setup endings before line ≡ true
-
 -- a line that breaks no clause meets each
-pub meets : (setup : SetupView) (endings : List EndingPacket) (before : List Line) (line : Line) → broken setup endings before line ≡ None → Meets setup endings before line
+pub meets : (setup : SetupView) (endings : List EndingPacket) (before : List Line) (line : Line) → broken setup endings before line ≡ None → MeetsClauses setup endings before line
 unfolding broken
 meets setup endings before line e =
     let retire : Option Clause = where_met (meets_retire setup endings before line) C.Retire None in
@@ -62,7 +52,7 @@ meets setup endings before line e =
     record { order = a.0; server = b.0; same = c.0; newer = d.0; number = f.0; cause = g.0; retire = h.0 }
 
 -- a line that meets each clause breaks none
-pub none_broken : (setup : SetupView) (endings : List EndingPacket) (before : List Line) (line : Line) → Meets setup endings before line → broken setup endings before line ≡ None
+pub none_broken : (setup : SetupView) (endings : List EndingPacket) (before : List Line) (line : Line) → MeetsClauses setup endings before line → broken setup endings before line ≡ None
 unfolding broken
 none_broken setup endings before line m =
     let retire : Option Clause = where_met (meets_retire setup endings before line) C.Retire None in
@@ -94,37 +84,3 @@ one_more setup endings lines line =
       λ met. whole.0 (subst (λ x. first_broken setup endings x ≡ None) (sym turned)
           (first_none (first_broken setup endings before) next (front.1 met.0) (none_at (length before + 1) (broken setup endings before line) met.1))),
     )
-
--- more Ending packets support a retirement all the more
-pub record Covers (endings more : List EndingPacket) : Type 0 where
-  pub passes : (test : EndingPacket → Bool) → list_any test endings ≡ true → list_any test more ≡ true
-
-retires_more : (setup : SetupView) (endings more : List EndingPacket) (before : List Line) (c : KeyView) (tick : ℕ) → Covers endings more → may_retire setup endings before c tick ≡ true → may_retire setup more before c tick ≡ true
-retires_more setup endings more before c tick covers e =
-    let test : EndingPacket → Bool = may_end c (last_retired before c) tick in
-    let long = is_quiet before c setup.shape.lives (last_sweep before) in
-    let short = is_quiet before c 1 (last_sweep before) in
-    let parts = and_parts (is_open before c) (long || (list_any test endings && short)) e in
-    and_from (is_open before c) (long || (list_any test more && short)) parts.0
-    (elim (or_cases long (list_any test endings && short) parts.1) [
-      | inl quiet ↦ or_left long (list_any test more && short) quiet
-      | inr ended ↦
-          let both = and_parts (list_any test endings) short ended in
-          or_right long (list_any test more && short) (and_from (list_any test more) short (covers.passes test both.0) both.1)
-    ])
-
-retire_more : (setup : SetupView) (endings more : List EndingPacket) (before : List Line) (line : Line) → Covers endings more → meets_retire setup endings before line ≡ true → meets_retire setup more before line ≡ true
-unfolding meets_retire
-retire_more setup endings more before (Swept number from to at_ms) covers e = e
-retire_more setup endings more before (Retired out key) covers e = retires_more setup endings more before key out covers e
-retire_more setup endings more before line covers e = e
-
--- a line that breaks no clause breaks none with more Ending packets
-pub broken_more : (setup : SetupView) (endings more : List EndingPacket) (before : List Line) (line : Line) → Covers endings more → broken setup endings before line ≡ None → broken setup more before line ≡ None
-broken_more setup endings more before line covers e =
-    let m = meets setup endings before line e in
-    none_broken setup more before line (record { order = m.order; server = m.server; same = m.same; newer = m.newer; number = m.number; cause = m.cause; retire = retire_more setup endings more before line covers m.retire })
-
--- so does a list
-pub list_more : (setup : SetupView) (endings more : List EndingPacket) (lines : List Line) → Covers endings more → NoLineBreaks setup endings lines → NoLineBreaks setup more lines
-list_more setup endings more lines covers met i line is = broken_more setup endings more (reverse (take i lines)) line covers (met i line is)

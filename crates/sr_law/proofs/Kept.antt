@@ -5,18 +5,18 @@ use Rattle.std.proofs.lemmas.Bool.{and_from}
 use Rattle.std.proofs.lemmas.Option.{slice_get_within, slice_get-get_or}
 use Rattle.sr_law.specs.declared.line.Line.{Line}
 use Rattle.sr_law.specs.declared.line.Line.TheVariants.{Recorded}
-use Rattle.sr_law.specs.Lawful.{NoLineBreaks}
+use Rattle.sr_law.specs.Lawful.{MeetsClauses, NoLineBreaks}
 use Rattle.sr_law.specs.Laws.{ConnectionsKeepServers}
 use Rattle.sr_law.specs.Retire.{EndingPacket}
 use Rattle.sr_law.specs.Server.{meets_server}
 use Rattle.sr_law.specs.Setup.{SetupView}
-use Rattle.sr_law.proofs.Clauses.{Meets, meets}
+use Rattle.sr_law.proofs.Clauses.{meets}
 use Rattle.sr_law.proofs.Newest.{newest_more}
 use Rattle.sr_law.proofs.OneServer.{all_meet_server, one_server}
 
 module _ (setup : SetupView) (endings : List EndingPacket) (lines : List Line) (met : NoLineBreaks setup endings lines) where
   -- each line meets the clauses
-  pub met_at : (i : ℕ) (d : Line) → i < length lines → Meets setup endings (reverse (take i lines)) (get_or lines i d)
+  pub met_at : (i : ℕ) (d : Line) → i < length lines → MeetsClauses setup endings (reverse (take i lines)) (get_or lines i d)
   met_at i d h = meets setup endings (reverse (take i lines)) (get_or lines i d) (met i (get_or lines i d) (slice_get-get_or lines i d h))
 
   -- so the first n name the right servers

@@ -5,5 +5,6 @@ pub mod Kept
 pub mod Newest
 pub mod OneServer
 pub mod Shapes
+pub mod Supported
 pub mod Switches
 pub mod Told

@@ -1,5 +1,5 @@
 -- A lawful list of lines: no line breaks a clause by the lines before it, and each packet has its final line.
-use Rattle.std.specs.Prelude.{◌≡◌, ℕ, ◌+◌, Bool, if◌then◌else◌, List, [], ◌∷◌, length, reverse, Option, Some, None, slice_get, IsTrue}
+use Rattle.std.specs.Prelude.{◌≡◌, ℕ, ◌+◌, Bool, true, if◌then◌else◌, List, [], ◌∷◌, length, reverse, Option, Some, None, slice_get, IsTrue}
 use Rattle.std.specs.Option.{option_or}
 use Rattle.sr_law.specs.declared.line.Line.{Line}
 use Rattle.sr_law.specs.declared.clause.Clause.{Clause}
@@ -31,6 +31,16 @@ broken setup endings before line =
     (where_met (meets_number setup before line) C.Number
     (where_met (meets_cause setup before line) C.Cause
     (where_met (meets_retire setup endings before line) C.Retire None))))))
+
+-- a line meets each clause
+pub record MeetsClauses (setup : SetupView) (endings : List EndingPacket) (before : List Line) (line : Line) : Type 0 where
+  pub order : meets_order setup before line ≡ true
+  pub server : meets_server setup.pools before line ≡ true
+  pub same : meets_same before line ≡ true
+  pub newer : meets_newer before line ≡ true
+  pub number : meets_number setup before line ≡ true
+  pub cause : meets_cause setup before line ≡ true
+  pub retire : meets_retire setup endings before line ≡ true
 
 -- no line of a printed list breaks a clause
 abbrev pub NoLineBreaks : SetupView → List EndingPacket → List Line → Type 0

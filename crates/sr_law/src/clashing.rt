@@ -40,17 +40,13 @@ fn clears_between(key: Key, place: Place, low: u64, high: u64, line: &Line) -> b
 }
 
 // Some line clears it between two ticks.
-#[tactic(auto, using(crate::proofs::Newest::newest_more))]
 fn any_clears_between(before: &[Line], key: Key, place: Place, low: u64, high: u64) -> bool
     ensures { result ≡ list_any (clears_between key place low high) (reverse before.now) }
 {
-    let mut any = false;
-    for line in before {
-        if clears_between(key, place, low, high, line) {
-            any = true;
-        }
-    }
-    any
+    before
+        .iter()
+        .rev()
+        .any(|line| clears_between(key, place, low, high, line))
 }
 
 // The line reserves a place for an entry that this key matches, and the entry isn't cleared before this tick.
@@ -67,17 +63,13 @@ fn reserves_against(shape: &Shape, before: &[Line], c: Key, start: u64, line: &L
 }
 
 // An entry that the opener matches may have stood in the tables at its start.
-#[tactic(auto, using(crate::proofs::Newest::newest_more))]
 pub(crate) fn may_clash(shape: &Shape, before: &[Line], c: Key, start: u64) -> bool
     requires buckets { 1 ≤ shape.now.buckets }
     requires bits { shape.now.digest_bits ≤ 16 }
     ensures { result ≡ may_clash shape.now (reverse before.now) c start }
 {
-    let mut any = false;
-    for line in before {
-        if reserves_against(shape, before, c, start, line) {
-            any = true;
-        }
-    }
-    any
+    before
+        .iter()
+        .rev()
+        .any(|line| reserves_against(shape, before, c, start, line))
 }

@@ -15,17 +15,10 @@ fn takes_down(server: u32, line: &Line) -> bool
 }
 
 // The server was taken down.
-#[tactic(auto, using(crate::proofs::Newest::newest_more))]
 pub(crate) fn is_down(before: &[Line], server: u32) -> bool
     ensures { result ≡ is_down (reverse before.now) server }
 {
-    let mut any = false;
-    for line in before {
-        if takes_down(server, line) {
-            any = true;
-        }
-    }
-    any
+    before.iter().rev().any(|line| takes_down(server, line))
 }
 
 // The line takes this server down before this tick.

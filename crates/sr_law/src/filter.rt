@@ -20,17 +20,10 @@ fn records(vip: u8, line: &Line) -> bool
 }
 
 // Some line begins to record.
-#[tactic(auto, using(crate::proofs::Newest::newest_more))]
 fn any_records(before: &[Line], vip: u8) -> bool
     ensures { result ≡ list_any (records vip) (reverse before.now) }
 {
-    let mut any = false;
-    for line in before {
-        if records(vip, line) {
-            any = true;
-        }
-    }
-    any
+    before.iter().rev().any(|line| records(vip, line))
 }
 
 // What the virtual address was last given before its last Recorded line.

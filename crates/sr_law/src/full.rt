@@ -50,17 +50,13 @@ fn answers_before(pipe: u8, nth: usize, tick: u64, line: &Line) -> bool
 }
 
 // Some line answers it before this tick.
-#[tactic(auto, using(crate::proofs::Newest::newest_more))]
 fn any_answers_before(before: &[Line], pipe: u8, nth: usize, tick: u64) -> bool
     ensures { result ≡ list_any (answers_before pipe nth tick) (reverse before.now) }
 {
-    let mut any = false;
-    for line in before {
-        if answers_before(pipe, nth, tick, line) {
-            any = true;
-        }
-    }
-    any
+    before
+        .iter()
+        .rev()
+        .any(|line| answers_before(pipe, nth, tick, line))
 }
 
 // A packet of this kind and verdict left a word in its pipe's ring, or found it full.

@@ -134,17 +134,13 @@ fn was_given_past(vip: u8, pool: u64, line: &Line) -> bool
 }
 
 // Some line gave the virtual address this pool or one of a greater number.
-#[tactic(auto, using(crate::proofs::Newest::newest_more))]
 fn any_given_past(before: &[Line], vip: u8, pool: u64) -> bool
     ensures { result ≡ list_any (was_given_past vip pool) (reverse before.now) }
 {
-    let mut any = false;
-    for line in before {
-        if was_given_past(vip, pool, line) {
-            any = true;
-        }
-    }
-    any
+    before
+        .iter()
+        .rev()
+        .any(|line| was_given_past(vip, pool, line))
 }
 
 // A pool that is given exists and comes after those before; the one that is switched to is the last given.

@@ -50,31 +50,23 @@ fn finishes_between(vip: u8, low: u64, high: u64, line: &Line) -> bool
 }
 
 // Some line switches it between two ticks.
-#[tactic(auto, using(crate::proofs::Newest::newest_more))]
 fn any_switches_between(before: &[Line], vip: u8, low: u64, high: u64) -> bool
     ensures { result ≡ list_any (switches_between vip low high) (reverse before.now) }
 {
-    let mut any = false;
-    for line in before {
-        if switches_between(vip, low, high, line) {
-            any = true;
-        }
-    }
-    any
+    before
+        .iter()
+        .rev()
+        .any(|line| switches_between(vip, low, high, line))
 }
 
 // Some line finishes its update between two ticks.
-#[tactic(auto, using(crate::proofs::Newest::newest_more))]
 fn any_finishes_between(before: &[Line], vip: u8, low: u64, high: u64) -> bool
     ensures { result ≡ list_any (finishes_between vip low high) (reverse before.now) }
 {
-    let mut any = false;
-    for line in before {
-        if finishes_between(vip, low, high, line) {
-            any = true;
-        }
-    }
-    any
+    before
+        .iter()
+        .rev()
+        .any(|line| finishes_between(vip, low, high, line))
 }
 
 // An update holds the virtual address, and the switch wasn't made before the start.

@@ -67,7 +67,10 @@ pub use check_refusal::CheckRefusal;
 pub use choice::Choice;
 pub use clause::Clause;
 pub use giving::Giving;
-pub use laws::{keeps_server, names_a_breach, one_more_line, opens_newer};
+pub use laws::{
+    breaks_none, keeps_server, more_support, names_a_breach, one_more_line, opens_newer,
+    out_supports, supported_anew,
+};
 pub use line::Line;
 pub use opening::Opening;
 pub use pools::Pools;

@@ -23,17 +23,13 @@ fn holds_version(before: &[Line], vip: u8, version: u8, key: Option<Key>) -> boo
 }
 
 // Some open connection of this virtual address has this version.
-#[tactic(auto, using(crate::proofs::Newest::newest_more))]
 fn is_held_open(before: &[Line], vip: u8, version: u8) -> bool
     ensures { result ≡ is_held_open (reverse before.now) vip version }
 {
-    let mut any = false;
-    for line in before {
-        if holds_version(before, vip, version, line.key()) {
-            any = true;
-        }
-    }
-    any
+    before
+        .iter()
+        .rev()
+        .any(|line| holds_version(before, vip, version, line.key()))
 }
 
 // The version is the last one of this virtual address, or an open connection has it.

@@ -22,17 +22,10 @@ fn refused_past(change: u32, line: &Line) -> bool
 }
 
 // Some line refused this change, or a later one.
-#[tactic(auto, using(crate::proofs::Newest::newest_more))]
 fn any_refused_past(before: &[Line], change: u32) -> bool
     ensures { result ≡ list_any (refused_past change) (reverse before.now) }
 {
-    let mut any = false;
-    for line in before {
-        if refused_past(change, line) {
-            any = true;
-        }
-    }
-    any
+    before.iter().rev().any(|line| refused_past(change, line))
 }
 
 // Changes are refused in the script's order.

@@ -53,13 +53,10 @@ fn count_told(lines: &[Line], packet: &Packet) -> usize
 fn count_among(packets: &[Packet], packet: &Packet) -> usize
     ensures { result ≡ count_by (same_packet packet.now) packets.now }
 {
-    let mut count = 0;
-    for other in packets {
-        if same_packet(packet, other) {
-            count += 1;
-        }
-    }
-    count
+    packets
+        .iter()
+        .filter(|other| same_packet(packet, other))
+        .count()
 }
 
 // The lines tell of this packet as often as it is among these.
@@ -95,17 +92,12 @@ fn all_told_as_often(lines: &[Line], packets: &[Packet]) -> bool
 }
 
 // The same of each of these packets.
-#[tactic(auto, using(crate::proofs::Told::all_take_more))]
 fn all_as_often(lines: &[Line], packets: &[Packet]) -> bool
     ensures { result ≡ list_all (is_as_often (packets_of (reverse lines.now)) packets.now) packets.now }
 {
-    let mut all = true;
-    for packet in packets {
-        if !is_as_often(lines, packets, packet) {
-            all = false;
-        }
-    }
-    all
+    packets
+        .iter()
+        .all(|packet| is_as_often(lines, packets, packet))
 }
 
 // The packets that the lines tell of are these.

@@ -23,18 +23,13 @@ fn answers(pipe: u8, nth: usize, line: &Line) -> bool
 }
 
 // How many such answers there are.
-#[tactic(auto, using(crate::proofs::Newest::newest_more))]
 fn count_answers(all: &[Line], pipe: u8, nth: usize) -> usize
-    ensures value { result ≡ count_by (answers pipe nth) (reverse all.now) }
-    ensures bound { result ≤ length all.now }
+    ensures { result ≡ count_by (answers pipe nth) (reverse all.now) }
 {
-    let mut count = 0;
-    for line in all {
-        if answers(pipe, nth, line) {
-            count += 1;
-        }
-    }
-    count
+    all.iter()
+        .rev()
+        .filter(|line| answers(pipe, nth, line))
+        .count()
 }
 
 // The line is such an answer, for this key, after the opener had entered.
@@ -54,17 +49,12 @@ fn answers_rightly(pipe: u8, nth: usize, key: Key, entered: u64, line: &Line) ->
 }
 
 // Some line is such an answer.
-#[tactic(auto, using(crate::proofs::Newest::newest_more))]
 fn any_answers_rightly(all: &[Line], pipe: u8, nth: usize, key: Key, entered: u64) -> bool
     ensures { result ≡ list_any (answers_rightly pipe nth key entered) (reverse all.now) }
 {
-    let mut any = false;
-    for line in all {
-        if answers_rightly(pipe, nth, key, entered, line) {
-            any = true;
-        }
-    }
-    any
+    all.iter()
+        .rev()
+        .any(|line| answers_rightly(pipe, nth, key, entered, line))
 }
 
 // There is one such answer, and it is right.
@@ -123,17 +113,10 @@ fn answer_is_held(all: &[Line], line: &Line) -> bool
 }
 
 // Each answer is to an opener that was held.
-#[tactic(auto, using(crate::proofs::Newest::newest_more))]
 fn all_answers_held(all: &[Line]) -> bool
     ensures { result ≡ list_all (answer_is_held (reverse all.now)) (reverse all.now) }
 {
-    let mut every = true;
-    for line in all {
-        if !answer_is_held(all, line) {
-            every = false;
-        }
-    }
-    every
+    all.iter().rev().all(|line| answer_is_held(all, line))
 }
 
 // The first lines are there; the packets are those of the setup, each as often as there; and answers and held openers pair.

@@ -122,17 +122,13 @@ fn uses_between(c: Key, low: u64, high: u64, line: &Line) -> bool
 }
 
 // Some packet of this connection used its entry between two ticks.
-#[tactic(auto, using(crate::proofs::Newest::newest_more))]
 fn any_uses_between(before: &[Line], c: Key, low: u64, high: u64) -> bool
     ensures { result ≡ list_any (uses_between c low high) (reverse before.now) }
 {
-    let mut any = false;
-    for line in before {
-        if uses_between(c, low, high, line) {
-            any = true;
-        }
-    }
-    any
+    before
+        .iter()
+        .rev()
+        .any(|line| uses_between(c, low, high, line))
 }
 
 // From one sweep to another a connection was placed and sent nothing.

@@ -5,15 +5,13 @@ ghost use Rattle.sr_law.specs.Rising.{after_last, has_two_ticks, is_in_time, sha
 use crate::Line;
 
 // A line comes after the one before it.
-#[tactic(auto, using(crate::proofs::Newest::newest_more))]
 fn after_last(before: &[Line], line: &Line) -> bool
     ensures { result ≡ after_last (reverse before.now) line.now }
 {
-    let mut after = true;
-    for last in before {
-        after = last.out() < line.out();
+    match before.iter().rev().next() {
+        Some(last) => last.out() < line.out(),
+        None => true,
     }
-    after
 }
 
 // A packet's line and a sweep's have two ticks.
@@ -47,17 +45,10 @@ fn share_tick(a: &Line, b: &Line) -> bool
 }
 
 // Some line before has a tick in common with this one.
-#[tactic(auto, using(crate::proofs::Newest::newest_more))]
 fn shares_tick(before: &[Line], line: &Line) -> bool
     ensures { result ≡ list_any (share_tick line.now) (reverse before.now) }
 {
-    let mut any = false;
-    for earlier in before {
-        if share_tick(line, earlier) {
-            any = true;
-        }
-    }
-    any
+    before.iter().rev().any(|earlier| share_tick(line, earlier))
 }
 
 // A packet's line that was out at this tick of its pipe or later.
@@ -71,17 +62,13 @@ fn was_in_pipe(pipe: u8, tick: u64, line: &Line) -> bool
 }
 
 // Some packet was in this pipe at this tick or later.
-#[tactic(auto, using(crate::proofs::Newest::newest_more))]
 fn any_in_pipe(before: &[Line], pipe: u8, tick: u64) -> bool
     ensures { result ≡ list_any (was_in_pipe pipe tick) (reverse before.now) }
 {
-    let mut any = false;
-    for line in before {
-        if was_in_pipe(pipe, tick, line) {
-            any = true;
-        }
-    }
-    any
+    before
+        .iter()
+        .rev()
+        .any(|line| was_in_pipe(pipe, tick, line))
 }
 
 // A controller's line that was out at this tick or later.
@@ -92,17 +79,10 @@ fn was_controlling(tick: u64, line: &Line) -> bool
 }
 
 // The controller wrote a line at this tick or later.
-#[tactic(auto, using(crate::proofs::Newest::newest_more))]
 fn any_controlling(before: &[Line], tick: u64) -> bool
     ensures { result ≡ list_any (was_controlling tick) (reverse before.now) }
 {
-    let mut any = false;
-    for line in before {
-        if was_controlling(tick, line) {
-            any = true;
-        }
-    }
-    any
+    before.iter().rev().any(|line| was_controlling(tick, line))
 }
 
 // Each actor does one thing after another.

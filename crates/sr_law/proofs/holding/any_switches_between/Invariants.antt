@@ -1,7 +1,0 @@
-use Rattle.std.proofs.Common.{◌≡◌, reverse, take}
-use Rattle.std.specs.List.{list_any}
-use Rattle.sr_law.specs.Held.{switches_between}
-use Rattle.sr_law.proofs.holding.any_switches_between.Given as goal
-
-abbrev pub invariant-loop-line : goal.invariant-loop-line
-invariant-loop-line l = l.any ≡ list_any (switches_between l.vip l.low l.high) (reverse (take l.line-index l.before))
