@@ -95,7 +95,7 @@ impl Scene {
 }
 
 fn may_plan(book: &Shadow, key: Key) -> bool
-    ensures { result ≡ true → IsUnplaced key book.now.entries }
+    ensures { result ≡ true → IsUnplaced key book.now.book.entries }
 {
     match book.get(key) {
         Some(entry) => entry.place.is_none(),
