@@ -1,14 +1,15 @@
 ghost use Rattle.std.specs.Prelude.{◌≡◌, ◌≤◌, IfSome, Some, true, find, option_copied};
 ghost use Rattle.sr_shadow.specs.Book.{entry_for, holder_of};
-ghost use Rattle.sr_shadow.specs.Plan.{entry_at, first_move, first_usable, is_free, move_from, move_of, other_way, slot_then, slots_of, target, with_moved, move_plan};
+ghost use Rattle.sr_shadow.specs.Plan.{entry_at, first_move, first_usable, is_free, move_from, move_of, slot_then, slots_of, target, with_moved, move_plan};
 ghost use Rattle.sr_shadow.specs.declared.entry.Entry.{Entry as AnEntry};
-ghost use Rattle.sr_plan.specs.Moves.{IsMover, NonePlaced, if_at, is_nobody_else, is_slot};
+ghost use Rattle.sr_shadow.specs.Moves.{IsMover, NonePlaced, if_at, is_nobody_else};
+ghost use Rattle.sr_shadow.specs.Entry.{is_slot};
 
 use crate::clear::is_clear_but;
-use crate::slots::{first_free, key_slots, slots_of};
+use crate::slots::first_free;
 use sr_base::{Key, Layout, Place, layout_ranges};
 use sr_hash::clashes;
-use sr_shadow::{Entry, Plan, Shadow, book_rules};
+use sr_shadow::{Entry, Plan, Shadow, book_rules, key_slots, other_way, slots_of};
 
 // The first move that makes room for the key.
 pub(crate) fn first_move(shadow: &Shadow, layout: &Layout, key: Key) -> Option<Plan>
@@ -103,16 +104,8 @@ fn move_of(
     }
 }
 
-// The other way.
-pub(crate) fn other_way(way: u8) -> u8
-    ensures value { result ≡ other_way way }
-    ensures way { (1 ≤ result) × (result ≤ 2) }
-{
-    if way == 1 { 2 } else { 1 }
-}
-
 // The first usable slot of the entry's bucket of a way, where the key that is planned counts as registered.
-#[tactic(auto, using(crate::proofs::Moving::target_slot))]
+#[tactic(auto, using(sr_shadow::proofs::Moving::target_slot))]
 fn target(shadow: &Shadow, layout: &Layout, key: Key, entry: &Entry, way: u8) -> Option<Place>
     requires made { shadow.now.layout ≡ layout.now }
     requires unplaced { NonePlaced key shadow.now.book.entries }
@@ -143,7 +136,7 @@ fn slot_then(shadow: &Shadow, layout: &Layout, key: Key, entry: &Entry, to: Plac
 }
 
 // The first of a way.
-#[tactic(auto, using(crate::proofs::Moving::then_slot))]
+#[tactic(auto, using(sr_shadow::proofs::Moving::then_slot))]
 fn slot_then_in(
     shadow: &Shadow,
     layout: &Layout,
@@ -180,7 +173,7 @@ fn first_free_after(shadow: &Shadow, entry: &Entry, to: Place, places: &[Place])
 }
 
 // Whether nobody holds a place with the entry at another place.
-#[tactic(auto, using(crate::proofs::Moving::free_after))]
+#[tactic(auto, using(sr_shadow::proofs::Moving::free_after))]
 fn is_free_after(shadow: &Shadow, entry: &Entry, to: Place, place: Place) -> bool
     requires { entry_for entry.now.key shadow.now.book.entries ≡ Some entry.now }
     ensures { result ≡ is_free (with_moved entry.now.key to shadow.now.book.entries) place }

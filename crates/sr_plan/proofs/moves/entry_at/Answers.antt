@@ -1,5 +1,5 @@
 use Rattle.std.proofs.Common.{sym}
-use Rattle.sr_plan.proofs.Holding.{none_held}
+use Rattle.sr_shadow.proofs.Holding.{none_held}
 use Rattle.sr_plan.proofs.moves.entry_at.Goals as goal
 
 pub returns-in-None-clause-value : goal.returns-in-None-clause-value

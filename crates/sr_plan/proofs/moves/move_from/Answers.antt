@@ -1,5 +1,5 @@
 use Rattle.std.proofs.Common.{refl, sym}
-use Rattle.sr_plan.proofs.Moving.{slot_mover}
+use Rattle.sr_shadow.proofs.Moving.{slot_mover}
 use Rattle.sr_plan.proofs.moves.move_from.Goals as goal
 
 pub move_of-requires-clause-mover : goal.move_of-requires-clause-mover

@@ -1,6 +1,6 @@
 use Rattle.std.proofs.Common.{◌∙◌, ap, sym}
-use Rattle.sr_plan.specs.Moves.{if_at}
-use Rattle.sr_plan.proofs.Holding.{held_at, kept_own}
+use Rattle.sr_shadow.specs.Moves.{if_at}
+use Rattle.sr_shadow.proofs.Holding.{held_at, kept_own}
 use Rattle.sr_plan.proofs.moves.placed_at.Goals as goal
 
 pub returns-in-Some-clause-value : goal.returns-in-Some-clause-value
