@@ -1,0 +1,4 @@
+//! The machine of atomic steps, as code.
+#![tactic(auto)]
+
+mod reads;
