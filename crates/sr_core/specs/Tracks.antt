@@ -21,7 +21,7 @@ use Rattle.sr_core.specs.declared.track.Track.TheVariants as track
 
 -- the place at a position, and those after it
 abbrev pub place_at : List Place → ℕ → Place
-place_at places at = slice_index_or places at (place.Row 0)
+place_at places at = slice_index_or places at (place.Slot 0 0 0)
 
 abbrev pub leg_of : Course → Leg
 leg_of (Look places at) = leg.Look (place_at places at) (drop (at + 1) places)
@@ -56,14 +56,14 @@ HaveBits s [] = Unit {0}
 HaveBits s (bit ∷ rest) = (bit < s.filter_bits) × HaveBits s rest
 
 abbrev pub FitsCourse : LayoutView → Course → Type 0
-FitsCourse l (Look places at) = (at < 12) × HavePlaces l.shape places
+FitsCourse l (Look places at) = (at < 12) × (length places ≡ 12) × HavePlaces l.shape places
 FitsCourse l (Hit place version) = HasPlace l.shape place × (version < l.shape.versions)
-FitsCourse l (Filter bits at) = (at < 3) × HaveBits l.shape bits
+FitsCourse l (Filter bits at) = (at < 3) × (length bits ≡ 3) × HaveBits l.shape bits
 FitsCourse l (Head version) = version < l.shape.versions
 FitsCourse l (Member version head) = (version < l.shape.versions) × (1 ≤ head.size) × (head.size ≤ l.shape.pool_max)
 FitsCourse l (Down version pool server) = (version < l.shape.versions) × (server < l.servers)
 FitsCourse l (Ring verdict) = Unit {0}
-FitsCourse l (Mark verdict bits at) = (at < 3) × HaveBits l.shape bits
+FitsCourse l (Mark verdict bits at) = (at < 3) × (length bits ≡ 3) × HaveBits l.shape bits
 FitsCourse l (Push verdict) = Unit {0}
 FitsCourse l (Out verdict) = Unit {0}
 

@@ -3,6 +3,7 @@
 
 mod course;
 mod reads;
+mod stepping;
 mod track;
 
 pub use track::{Course, Track};
