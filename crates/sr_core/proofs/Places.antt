@@ -1,5 +1,5 @@
 -- The places and bits that a pipe keeps are the layout's.
-use Rattle.std.proofs.Common.{◌≡◌, ℕ, zero, suc, ◌<◌, List, [], ◌∷◌, length, slice_index, slice_index_or, arith}
+use Rattle.std.proofs.Common.{ℕ, zero, suc, ◌<◌, List, [], ◌∷◌, length, slice_index, slice_index_or, arith}
 use Rattle.sr_base.specs.WordName.{HasPlace}
 use Rattle.sr_base.specs.declared.place.Place.{Place}
 use Rattle.sr_base.specs.declared.shape.Shape.{Shape}

@@ -1,5 +1,5 @@
 -- What is read and loaded is of the layout.
-use Rattle.std.specs.Prelude.{ℕ, ◌<◌}
+use Rattle.std.specs.Prelude.{◌<◌}
 use Rattle.sr_base.specs.Layout.{LayoutView}
 use Rattle.sr_machine.specs.declared.said.Said.{Said}
 use Rattle.sr_machine.specs.declared.said.Said.TheVariants.{Nothing, Reserved, Live}

@@ -40,14 +40,46 @@ pub(crate) fn key_places(layout: &Layout, key: Key) -> [Place; 12]
         Place::Row { row: first + 1 },
         Place::Row { row: first + 2 },
         Place::Row { row: first + 3 },
-        Place::Slot { way: 1, bucket: one, cell: 0 },
-        Place::Slot { way: 1, bucket: one, cell: 1 },
-        Place::Slot { way: 1, bucket: one, cell: 2 },
-        Place::Slot { way: 1, bucket: one, cell: 3 },
-        Place::Slot { way: 2, bucket: two, cell: 0 },
-        Place::Slot { way: 2, bucket: two, cell: 1 },
-        Place::Slot { way: 2, bucket: two, cell: 2 },
-        Place::Slot { way: 2, bucket: two, cell: 3 },
+        Place::Slot {
+            way: 1,
+            bucket: one,
+            cell: 0,
+        },
+        Place::Slot {
+            way: 1,
+            bucket: one,
+            cell: 1,
+        },
+        Place::Slot {
+            way: 1,
+            bucket: one,
+            cell: 2,
+        },
+        Place::Slot {
+            way: 1,
+            bucket: one,
+            cell: 3,
+        },
+        Place::Slot {
+            way: 2,
+            bucket: two,
+            cell: 0,
+        },
+        Place::Slot {
+            way: 2,
+            bucket: two,
+            cell: 1,
+        },
+        Place::Slot {
+            way: 2,
+            bucket: two,
+            cell: 2,
+        },
+        Place::Slot {
+            way: 2,
+            bucket: two,
+            cell: 3,
+        },
     ]
 }
 
@@ -67,7 +99,9 @@ pub(crate) fn held_or(layout: &Layout, flight: &Flight, by: HeldBy, version: Ver
     ensures fits { FitsCourse layout.now result }
 {
     if is_opener(flight.packet.kind) {
-        Course::Ring { verdict: Verdict::Held(by) }
+        Course::Ring {
+            verdict: Verdict::Held(by),
+        }
     } else {
         Course::Head { version }
     }
@@ -95,8 +129,12 @@ pub(crate) fn missed(layout: &Layout, flight: &Flight) -> Course
     ensures fits { FitsCourse layout.now result }
 {
     match flight.vip.phase {
-        Phase::Steady => Course::Head { version: flight.vip.cur },
-        Phase::Recording => Course::Head { version: flight.vip.cur },
+        Phase::Steady => Course::Head {
+            version: flight.vip.cur,
+        },
+        Phase::Recording => Course::Head {
+            version: flight.vip.cur,
+        },
         Phase::Holding => held_or(layout, flight, HeldBy::Hold, flight.vip.cur),
         Phase::Transit => filtering(layout, flight, key_bits(layout, flight.packet.key), 0),
     }
@@ -119,7 +157,13 @@ pub(crate) fn looking(layout: &Layout, flight: &Flight, places: [Place; 12], fro
 
 #[tactic(auto, using(crate::proofs::Places::has_place))]
 // What a place said: a live entry is found; a reserved one holds an opener, and is nothing to another packet.
-pub(crate) fn looked(layout: &Layout, flight: &Flight, places: [Place; 12], at: usize, said: &Said) -> Course
+pub(crate) fn looked(
+    layout: &Layout,
+    flight: &Flight,
+    places: [Place; 12],
+    at: usize,
+    said: &Said,
+) -> Course
     requires at { at < 12 }
     requires places { HavePlaces layout.now.shape places }
     requires flight { FitsFlight layout.now flight.now }
@@ -131,7 +175,9 @@ pub(crate) fn looked(layout: &Layout, flight: &Flight, places: [Place; 12], at: 
         Said::Nothing => looking(layout, flight, places, at + 1),
         Said::Reserved => {
             if is_opener(flight.packet.kind) {
-                Course::Ring { verdict: Verdict::Held(HeldBy::Clash) }
+                Course::Ring {
+                    verdict: Verdict::Held(HeldBy::Clash),
+                }
             } else {
                 looking(layout, flight, places, at + 1)
             }
@@ -144,7 +190,13 @@ pub(crate) fn looked(layout: &Layout, flight: &Flight, places: [Place; 12], at: 
 }
 
 // A clear bit gives the next version.
-pub(crate) fn filtered(layout: &Layout, flight: &Flight, bits: [u32; 3], at: usize, set: bool) -> Course
+pub(crate) fn filtered(
+    layout: &Layout,
+    flight: &Flight,
+    bits: [u32; 3],
+    at: usize,
+    set: bool,
+) -> Course
     requires at { at < 3 }
     requires bits { HaveBits layout.now.shape bits }
     requires flight { FitsFlight layout.now flight.now }
@@ -154,7 +206,9 @@ pub(crate) fn filtered(layout: &Layout, flight: &Flight, bits: [u32; 3], at: usi
     if set {
         filtering(layout, flight, bits, at + 1)
     } else {
-        Course::Head { version: flight.vip.next }
+        Course::Head {
+            version: flight.vip.next,
+        }
     }
 }
 
@@ -183,7 +237,13 @@ pub(crate) fn judged(layout: &Layout, kind: Kind, down: bool, verdict: Verdict) 
     ensures fits { FitsCourse layout.now result }
 {
     match kind {
-        Kind::Opener => { if down { Course::Out { verdict } } else { Course::Ring { verdict } } }
+        Kind::Opener => {
+            if down {
+                Course::Out { verdict }
+            } else {
+                Course::Ring { verdict }
+            }
+        }
         Kind::Carry => Course::Out { verdict },
         Kind::Ending => Course::Ring { verdict },
     }
@@ -246,7 +306,9 @@ pub(crate) fn celled(layout: &Layout, flight: &Flight, verdict: Verdict, empty: 
             Course::Push { verdict }
         }
     } else if is_opener(flight.packet.kind) {
-        Course::Out { verdict: Verdict::Full }
+        Course::Out {
+            verdict: Verdict::Full,
+        }
     } else {
         Course::Out { verdict }
     }

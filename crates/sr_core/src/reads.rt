@@ -6,7 +6,9 @@ ghost use Rattle.sr_machine.specs.Reads.{cell_says, filter_bit, has_bit, head_in
 ghost use Rattle.sr_machine.specs.declared.said.Said.TheVariants.{Live, Nothing};
 ghost use Rattle.sr_core.specs.Ranges.{SaidFits};
 
-use sr_base::{FullWord, Key, Layout, Phase, Place, RowHead, SlotWord, Version, VipWord, layout_ranges};
+use sr_base::{
+    FullWord, Key, Layout, Phase, Place, RowHead, SlotWord, Version, VipWord, layout_ranges,
+};
 use sr_hash::matches;
 use sr_machine::Said;
 
@@ -92,7 +94,13 @@ fn row_says(layout: &Layout, key: Key, word: &FullWord) -> Said
 {
     match word {
         FullWord::Empty => Said::Nothing,
-        FullWord::Reserved { key: own } => { if key.same(*own) { Said::Reserved } else { Said::Nothing } }
+        FullWord::Reserved { key: own } => {
+            if key.same(*own) {
+                Said::Reserved
+            } else {
+                Said::Nothing
+            }
+        }
         FullWord::Live { key: own, version } => live_if(layout, key.same(*own), *version),
     }
 }
@@ -136,7 +144,11 @@ pub(crate) fn read_server(layout: &Layout, x: u64) -> u32
     ensures below { result < layout.now.servers }
 {
     layout_ranges(layout);
-    if x < layout.servers() as u64 { x as u32 } else { 0 }
+    if x < layout.servers() as u64 {
+        x as u32
+    } else {
+        0
+    }
 }
 
 // Whether a flag is set.

@@ -72,12 +72,18 @@ fn course_op(layout: &Layout, pipe: u8, pushed: u64, flight: &Flight, course: &C
     filter_bits_have_words(layout);
     let vip = flight.packet.key.vip;
     match course {
-        Course::Look { places, at } => Op::Loads { name: Name::Entry { place: places[*at] } },
+        Course::Look { places, at } => Op::Loads {
+            name: Name::Entry { place: places[*at] },
+        },
         Course::Hit { place, .. } => Op::Stores {
             name: Name::Hit { place: *place },
             value: 1,
         },
-        Course::Filter { bits, at } => Op::Loads { name: Name::Filter { index: bits[*at] / 64 } },
+        Course::Filter { bits, at } => Op::Loads {
+            name: Name::Filter {
+                index: bits[*at] / 64,
+            },
+        },
         Course::Head { version } => Op::Loads {
             name: Name::Head {
                 vip,
@@ -91,10 +97,16 @@ fn course_op(layout: &Layout, pipe: u8, pushed: u64, flight: &Flight, course: &C
                 index: select(head.size, flight.packet.key),
             },
         },
-        Course::Down { server, .. } => Op::Loads { name: Name::Down { server: *server } },
-        Course::Ring { .. } => Op::Loads { name: ring_cell(layout, pipe, pushed) },
+        Course::Down { server, .. } => Op::Loads {
+            name: Name::Down { server: *server },
+        },
+        Course::Ring { .. } => Op::Loads {
+            name: ring_cell(layout, pipe, pushed),
+        },
         Course::Mark { bits, at, .. } => Op::Ors {
-            name: Name::Filter { index: bits[*at] / 64 },
+            name: Name::Filter {
+                index: bits[*at] / 64,
+            },
             bits: 1 << (bits[*at] % 64),
         },
         Course::Push { verdict } => Op::Stores {
@@ -233,7 +245,11 @@ pub(crate) fn track_op(layout: &Layout, pipe: u8, pushed: u64, track: &Track) ->
             name: Name::Note { pipe },
             value: *entered,
         }),
-        Track::Vip { packet, .. } => Some(Op::Loads { name: Name::Vip { vip: packet.key.vip } }),
+        Track::Vip { packet, .. } => Some(Op::Loads {
+            name: Name::Vip {
+                vip: packet.key.vip,
+            },
+        }),
         Track::Fly { flight, course } => Some(course_op(layout, pipe, pushed, flight, course)),
         Track::Leave { .. } => Some(Op::Stores {
             name: Name::Note { pipe },
