@@ -131,3 +131,7 @@ StoresStand l = (words : List ℕ) (name : WordName) (x : ℕ) → HasWord l nam
 -- a store at one name leaves the number at every other name
 abbrev pub StoresApart : LayoutView → Type 0
 StoresApart l = (words : List ℕ) (a b : WordName) (x : ℕ) → HasWord l a → HasWord l b → b ≢ a → word_at l (with_word l words a x) b ≡ word_at l words b
+
+-- each bit of the filter stands in a word that the layout has
+abbrev pub FilterBitsHaveWords : LayoutView → Type 0
+FilterBitsHaveWords l = (bit : ℕ) → bit < l.shape.filter_bits → HasWord l (Filter (bit / 64))

@@ -1,7 +1,7 @@
 ghost use Rattle.std.specs.Prelude.{◌≡◌, ◌+◌, ◌<◌, ◌≤◌, ◌↔◌, IsTrue, MatchResult};
 ghost use Rattle.sr_base.specs.Limit.{between, power_up_to, table_limit_of, other_limit_of, limit_of};
 ghost use Rattle.sr_base.specs.Layout.{IsLayout};
-ghost use Rattle.sr_base.specs.WordName.{filter_words, HasPlace, HasVersion, HasWord, entries_of, filter_start, pipes_start, vips_start, pools_start, down_start, words_of, entry_number, pipe_start, pool_start, place_of, NamesApart, PlacesBelow, EachPlaceNamed, StoresStand, StoresApart};
+ghost use Rattle.sr_base.specs.WordName.{filter_words, HasPlace, HasVersion, HasWord, entries_of, filter_start, pipes_start, vips_start, pools_start, down_start, words_of, entry_number, pipe_start, pool_start, place_of, NamesApart, PlacesBelow, EachPlaceNamed, StoresStand, StoresApart, FilterBitsHaveWords};
 
 use crate::{Place, Shape, WordName};
 use std::marker::Model;
@@ -362,11 +362,18 @@ fn first_other_limit(shape: &Shape, vips: u8, servers: u32) -> Option<ShapeLimit
     None
 }
 
-/// The ranges of a layout's numbers.
+/// The ranges of a layout's numbers: all that `Layout::new` asks of them.
 pub fn layout_ranges(layout: &Layout)
     ensures { IsLayout layout.now }
 {
     let _ = &layout.shape;
+}
+
+/// The law of the filter's bits: the word of each of them, the bit's number divided by 64, is one that the layout has.
+pub fn filter_bits_have_words(layout: &Layout)
+    ensures { FilterBitsHaveWords layout.now }
+{
+    layout_ranges(layout);
 }
 
 /// The law of the places: different names have different ones, each place below the number of words has a name and no other place has; and

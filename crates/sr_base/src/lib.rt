@@ -23,7 +23,7 @@ pub use change::{Change, What};
 pub use full_word::{FullWord, full_unpacks};
 pub use key::{Key, key_ranges, key_unpacks};
 pub use kind::Kind;
-pub use layout::{Layout, ShapeLimit, layout_ranges, words_stand_apart};
+pub use layout::{Layout, ShapeLimit, filter_bits_have_words, layout_ranges, words_stand_apart};
 pub use packet::Packet;
 pub use place::Place;
 pub use pool::Pool;

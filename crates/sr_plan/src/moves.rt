@@ -1,20 +1,21 @@
 ghost use Rattle.std.specs.Prelude.{◌≡◌, ◌≤◌, IfSome, Some, true, find, option_copied};
 ghost use Rattle.sr_shadow.specs.Book.{entry_for, holder_of};
-ghost use Rattle.sr_shadow.specs.Plan.{entry_at, first_move, first_usable, is_free, move_from, move_of, other_way, slot_then, slots_of, target, with_moved, move_plan};
+ghost use Rattle.sr_shadow.specs.Plan.{entry_at, first_move, first_usable, is_free, move_from, move_of, slot_then, slots_of, target, with_moved, move_plan};
 ghost use Rattle.sr_shadow.specs.declared.entry.Entry.{Entry as AnEntry};
-ghost use Rattle.sr_plan.specs.Moves.{IsMover, NonePlaced, if_at, is_nobody_else, is_slot};
+ghost use Rattle.sr_shadow.specs.Moves.{IsMover, NonePlaced, if_at, is_nobody_else};
+ghost use Rattle.sr_shadow.specs.Entry.{is_slot};
 
 use crate::clear::is_clear_but;
-use crate::slots::{first_free, key_slots, slots_of};
+use crate::slots::first_free;
 use sr_base::{Key, Layout, Place, layout_ranges};
 use sr_hash::clashes;
-use sr_shadow::{Entry, Plan, Shadow, book_rules};
+use sr_shadow::{Entry, Plan, Shadow, book_rules, key_slots, other_way, slots_of};
 
 // The first move that makes room for the key.
 pub(crate) fn first_move(shadow: &Shadow, layout: &Layout, key: Key) -> Option<Plan>
     requires made { shadow.now.layout ≡ layout.now }
-    requires unplaced { NonePlaced key shadow.now.entries }
-    ensures { result ≡ move_plan layout.now.shape shadow.now.entries key }
+    requires unplaced { NonePlaced key shadow.now.book.entries }
+    ensures { result ≡ move_plan layout.now.shape shadow.now.book.entries key }
 {
     let slots = key_slots(layout, key);
     for slot in slots.as_slice() {
@@ -28,8 +29,8 @@ pub(crate) fn first_move(shadow: &Shadow, layout: &Layout, key: Key) -> Option<P
 // The move of the entry in a slot.
 fn move_from(shadow: &Shadow, layout: &Layout, key: Key, slot: Place) -> Option<Plan>
     requires made { shadow.now.layout ≡ layout.now }
-    requires unplaced { NonePlaced key shadow.now.entries }
-    ensures { result ≡ move_from layout.now.shape shadow.now.entries key slot }
+    requires unplaced { NonePlaced key shadow.now.book.entries }
+    ensures { result ≡ move_from layout.now.shape shadow.now.book.entries key slot }
 {
     match slot {
         Place::Slot { way, .. } => match entry_at(shadow, slot) {
@@ -42,8 +43,8 @@ fn move_from(shadow: &Shadow, layout: &Layout, key: Key, slot: Place) -> Option<
 
 // The entry whose Live place this is.
 pub(crate) fn entry_at(shadow: &Shadow, place: Place) -> Option<&Entry>
-    ensures value { option_copied result ≡ entry_at place shadow.now.entries }
-    ensures own { (e : AnEntry) → option_copied result ≡ Some e → entry_for e.key shadow.now.entries ≡ Some e }
+    ensures value { option_copied result ≡ entry_at place shadow.now.book.entries }
+    ensures own { (e : AnEntry) → option_copied result ≡ Some e → entry_for e.key shadow.now.book.entries ≡ Some e }
 {
     match shadow.holder(place) {
         Some(key) => placed_at(shadow, place, key),
@@ -53,9 +54,9 @@ pub(crate) fn entry_at(shadow: &Shadow, place: Place) -> Option<&Entry>
 
 // The entry of the key that holds a place, where it is its Live place.
 fn placed_at(shadow: &Shadow, place: Place, key: Key) -> Option<&Entry>
-    requires { holder_of place shadow.now.entries ≡ Some key }
-    ensures value { option_copied result ≡ entry_at place shadow.now.entries }
-    ensures own { (e : AnEntry) → option_copied result ≡ Some e → entry_for e.key shadow.now.entries ≡ Some e }
+    requires { holder_of place shadow.now.book.entries ≡ Some key }
+    ensures value { option_copied result ≡ entry_at place shadow.now.book.entries }
+    ensures own { (e : AnEntry) → option_copied result ≡ Some e → entry_for e.key shadow.now.book.entries ≡ Some e }
 {
     book_rules(shadow);
     match shadow.get(key) {
@@ -85,9 +86,9 @@ fn move_of(
     from: Place,
 ) -> Option<Plan>
     requires made { shadow.now.layout ≡ layout.now }
-    requires unplaced { NonePlaced key shadow.now.entries }
-    requires mover { IsMover key entry.now shadow.now.entries }
-    ensures { result ≡ move_of layout.now.shape shadow.now.entries key entry.now.key way from }
+    requires unplaced { NonePlaced key shadow.now.book.entries }
+    requires mover { IsMover key entry.now shadow.now.book.entries }
+    ensures { result ≡ move_of layout.now.shape shadow.now.book.entries key entry.now.key way from }
 {
     let to = target(shadow, layout, key, entry, other_way(way))?;
     let then = slot_then(shadow, layout, key, entry, to)?;
@@ -103,22 +104,14 @@ fn move_of(
     }
 }
 
-// The other way.
-pub(crate) fn other_way(way: u8) -> u8
-    ensures value { result ≡ other_way way }
-    ensures way { (1 ≤ result) × (result ≤ 2) }
-{
-    if way == 1 { 2 } else { 1 }
-}
-
 // The first usable slot of the entry's bucket of a way, where the key that is planned counts as registered.
-#[tactic(auto, using(crate::proofs::Moving::target_slot))]
+#[tactic(auto, using(sr_shadow::proofs::Moving::target_slot))]
 fn target(shadow: &Shadow, layout: &Layout, key: Key, entry: &Entry, way: u8) -> Option<Place>
     requires made { shadow.now.layout ≡ layout.now }
-    requires unplaced { NonePlaced key shadow.now.entries }
-    requires mover { IsMover key entry.now shadow.now.entries }
+    requires unplaced { NonePlaced key shadow.now.book.entries }
+    requires mover { IsMover key entry.now shadow.now.book.entries }
     requires way { (1 ≤ way) × (way ≤ 2) }
-    ensures value { result ≡ target layout.now.shape shadow.now.entries key entry.now.key way }
+    ensures value { result ≡ target layout.now.shape shadow.now.book.entries key entry.now.key way }
     ensures slot { IfSome result (λ to. is_slot to ≡ true) }
 {
     layout_ranges(layout);
@@ -132,9 +125,9 @@ fn target(shadow: &Shadow, layout: &Layout, key: Key, entry: &Entry, way: u8) ->
 // The key's first usable slot with the entry at another place.
 fn slot_then(shadow: &Shadow, layout: &Layout, key: Key, entry: &Entry, to: Place) -> Option<Place>
     requires made { shadow.now.layout ≡ layout.now }
-    requires mover { IsMover key entry.now shadow.now.entries }
+    requires mover { IsMover key entry.now shadow.now.book.entries }
     requires slot { is_slot to ≡ true }
-    ensures { result ≡ slot_then layout.now.shape shadow.now.entries key entry.now.key to }
+    ensures { result ≡ slot_then layout.now.shape shadow.now.book.entries key entry.now.key to }
 {
     match slot_then_in(shadow, layout, 1, key, entry, to) {
         Some(place) => Some(place),
@@ -143,7 +136,7 @@ fn slot_then(shadow: &Shadow, layout: &Layout, key: Key, entry: &Entry, to: Plac
 }
 
 // The first of a way.
-#[tactic(auto, using(crate::proofs::Moving::then_slot))]
+#[tactic(auto, using(sr_shadow::proofs::Moving::then_slot))]
 fn slot_then_in(
     shadow: &Shadow,
     layout: &Layout,
@@ -154,9 +147,9 @@ fn slot_then_in(
 ) -> Option<Place>
     requires made { shadow.now.layout ≡ layout.now }
     requires way { (1 ≤ way) × (way ≤ 2) }
-    requires mover { IsMover key entry.now shadow.now.entries }
+    requires mover { IsMover key entry.now shadow.now.book.entries }
     requires slot { is_slot to ≡ true }
-    ensures { result ≡ first_usable layout.now.shape (with_moved entry.now.key to shadow.now.entries) key (slots_of layout.now.shape way key) }
+    ensures { result ≡ first_usable layout.now.shape (with_moved entry.now.key to shadow.now.book.entries) key (slots_of layout.now.shape way key) }
 {
     book_rules(shadow);
     if shadow.clashing(way, key) {
@@ -168,8 +161,8 @@ fn slot_then_in(
 
 // The first of these places that nobody holds with the entry at another place.
 fn first_free_after(shadow: &Shadow, entry: &Entry, to: Place, places: &[Place]) -> Option<Place>
-    requires { entry_for entry.now.key shadow.now.entries ≡ Some entry.now }
-    ensures { result ≡ find (is_free (with_moved entry.now.key to shadow.now.entries)) places.now }
+    requires { entry_for entry.now.key shadow.now.book.entries ≡ Some entry.now }
+    ensures { result ≡ find (is_free (with_moved entry.now.key to shadow.now.book.entries)) places.now }
 {
     for place in places {
         if is_free_after(shadow, entry, to, *place) {
@@ -180,10 +173,10 @@ fn first_free_after(shadow: &Shadow, entry: &Entry, to: Place, places: &[Place])
 }
 
 // Whether nobody holds a place with the entry at another place.
-#[tactic(auto, using(crate::proofs::Moving::free_after))]
+#[tactic(auto, using(sr_shadow::proofs::Moving::free_after))]
 fn is_free_after(shadow: &Shadow, entry: &Entry, to: Place, place: Place) -> bool
-    requires { entry_for entry.now.key shadow.now.entries ≡ Some entry.now }
-    ensures { result ≡ is_free (with_moved entry.now.key to shadow.now.entries) place }
+    requires { entry_for entry.now.key shadow.now.book.entries ≡ Some entry.now }
+    ensures { result ≡ is_free (with_moved entry.now.key to shadow.now.book.entries) place }
 {
     book_rules(shadow);
     !place.same(to) && is_nobody_else(shadow.holder(place), entry.key)

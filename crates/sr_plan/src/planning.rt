@@ -12,8 +12,8 @@ use sr_shadow::{Plan, Shadow, book_rules};
 #[tactic(auto, unfolding(sr_shadow::specs::Plan::first_plan))]
 pub fn plan(shadow: &Shadow, layout: &Layout, key: Key) -> Plan
     requires made { shadow.now.layout ≡ layout.now }
-    requires unplaced { IsUnplaced key shadow.now.entries }
-    ensures { result ≡ first_plan layout.now.shape shadow.now.entries key }
+    requires unplaced { IsUnplaced key shadow.now.book.entries }
+    ensures { result ≡ first_plan layout.now.shape shadow.now.book.entries key }
 {
     if let Some(plan) = slot(shadow, layout, key) {
         return plan;
@@ -28,11 +28,11 @@ pub fn plan(shadow: &Shadow, layout: &Layout, key: Key) -> Plan
 }
 
 // The key's first usable slot, if the key is clear.
-#[tactic(auto, using(crate::proofs::Holding::none_placed))]
+#[tactic(auto, using(sr_shadow::proofs::Holding::none_placed))]
 fn slot(shadow: &Shadow, layout: &Layout, key: Key) -> Option<Plan>
     requires made { shadow.now.layout ≡ layout.now }
-    requires unplaced { IsUnplaced key shadow.now.entries }
-    ensures { result ≡ slot_plan layout.now.shape shadow.now.entries key }
+    requires unplaced { IsUnplaced key shadow.now.book.entries }
+    ensures { result ≡ slot_plan layout.now.shape shadow.now.book.entries key }
 {
     book_rules(shadow);
     let place = usable(shadow, layout, key)?;
@@ -44,11 +44,11 @@ fn slot(shadow: &Shadow, layout: &Layout, key: Key) -> Option<Plan>
 }
 
 // The first move.
-#[tactic(auto, using(crate::proofs::Holding::none_placed))]
+#[tactic(auto, using(sr_shadow::proofs::Holding::none_placed))]
 fn moves(shadow: &Shadow, layout: &Layout, key: Key) -> Option<Plan>
     requires made { shadow.now.layout ≡ layout.now }
-    requires unplaced { IsUnplaced key shadow.now.entries }
-    ensures { result ≡ move_plan layout.now.shape shadow.now.entries key }
+    requires unplaced { IsUnplaced key shadow.now.book.entries }
+    ensures { result ≡ move_plan layout.now.shape shadow.now.book.entries key }
 {
     book_rules(shadow);
     first_move(shadow, layout, key)

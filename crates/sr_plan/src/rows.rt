@@ -1,15 +1,14 @@
 ghost use Rattle.std.specs.Prelude.{◌≡◌, find};
-ghost use Rattle.sr_shadow.specs.Plan.{key_rows, row_plan, is_free};
+ghost use Rattle.sr_shadow.specs.Plan.{row_plan, is_free};
 ghost use Rattle.sr_base.specs.declared.place.Place.TheVariants.{Row};
 
 use crate::slots::is_free;
-use sr_base::{Key, Layout, Place, layout_ranges};
-use sr_hash::group;
-use sr_shadow::{Plan, Shadow};
+use sr_base::{Key, Layout, Place};
+use sr_shadow::{Plan, Shadow, key_rows};
 
 // The first row of the key's group that nobody holds.
 pub(crate) fn first_row(shadow: &Shadow, layout: &Layout, key: Key) -> Option<Plan>
-    ensures { result ≡ row_plan layout.now.shape shadow.now.entries key }
+    ensures { result ≡ row_plan layout.now.shape shadow.now.book.entries key }
 {
     let rows = key_rows(layout, key);
     match first_free_row(shadow, rows.as_slice()) {
@@ -18,18 +17,9 @@ pub(crate) fn first_row(shadow: &Shadow, layout: &Layout, key: Key) -> Option<Pl
     }
 }
 
-// The four rows of the key's group.
-pub(crate) fn key_rows(layout: &Layout, key: Key) -> [u32; 4]
-    ensures { result ≡ key_rows layout.now.shape key }
-{
-    layout_ranges(layout);
-    let first = 4 * group(key, layout.shape().full_rows);
-    [first, first + 1, first + 2, first + 3]
-}
-
 // The first of these rows that nobody holds.
 fn first_free_row(shadow: &Shadow, rows: &[u32]) -> Option<u32>
-    ensures { result ≡ find (λ row. is_free shadow.now.entries (Row row)) rows.now }
+    ensures { result ≡ find (λ row. is_free shadow.now.book.entries (Row row)) rows.now }
 {
     for row in rows {
         if is_free(shadow, Place::Row { row: *row }) {

@@ -4,7 +4,7 @@ use Rattle.std.proofs.lemmas.Bool.Decides.{nat_tests}
 use Rattle.std.proofs.lemmas.List.Folds.{list_any-append}
 use Rattle.std.proofs.lemmas.List.Sums.{sum_by-cons}
 use Rattle.sr_base.specs.Key.{KeyView, IsKey, same_key}
-use Rattle.sr_shadow.specs.Book.{entry_for, is_registered, count_of, AreKeys, DistinctKeys, TakenFrom}
+use Rattle.sr_shadow.specs.Book.{entry_for, is_registered, count_of, AreKeys, DistinctKeys, PlacedLeave, TakenFrom}
 use Rattle.sr_shadow.specs.Entry.{is_of, has_version}
 use Rattle.sr_shadow.specs.declared.entry.Entry.{Entry}
 use Rattle.sr_base.proofs.Sameness.{same_key-sym}
@@ -47,6 +47,19 @@ keys_swap (x ∷ front) back e f own h = (h.0, keys_swap front back e f own h.1)
 pub keys_less : (front back : List Entry) (e : Entry) → AreKeys (front ++ e ∷ back) → AreKeys (front ++ back)
 keys_less [] back e h = h.1
 keys_less (x ∷ front) back e h = (h.0, keys_less front back e h.1)
+
+-- only a key with a Live place is about to leave one
+pub leave_more : (es : List Entry) (e : Entry) → (e.place ≡ None → e.also ≡ None) → PlacedLeave es → PlacedLeave (es ++ e ∷ [])
+leave_more [] e own h = (own, tt)
+leave_more (x ∷ es) e own h = (h.0, leave_more es e own h.1)
+
+pub leave_swap : (front back : List Entry) (e f : Entry) → ((e.place ≡ None → e.also ≡ None) → f.place ≡ None → f.also ≡ None) → PlacedLeave (front ++ e ∷ back) → PlacedLeave (front ++ f ∷ back)
+leave_swap [] back e f own h = (own h.0, h.1)
+leave_swap (x ∷ front) back e f own h = (h.0, leave_swap front back e f own h.1)
+
+pub leave_less : (front back : List Entry) (e : Entry) → PlacedLeave (front ++ e ∷ back) → PlacedLeave (front ++ back)
+leave_less [] back e h = h.1
+leave_less (x ∷ front) back e h = (h.0, leave_less front back e h.1)
 
 -- rising numbers
 pub taken_more : (low high : ℕ) (es : List Entry) (e : Entry) → e.taken ≡ high → TakenFrom low es high → TakenFrom low (es ++ e ∷ []) (high + 1)

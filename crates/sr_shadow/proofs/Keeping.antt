@@ -1,19 +1,20 @@
 -- The indexes stay those of the entries.
-use Rattle.std.proofs.Common.{◌≡◌, ℕ, zero, suc, ◌+◌, ◌^◌, ◌<◌, ◌≤◌, min, Bool, true, false, List, [], ◌∷◌, ◌++◌, length, drop, Option, None, Some, is_some, refl, sym, ap, subst, true≢false, arith}
+use Rattle.std.proofs.Common.{◌≡◌, ℕ, zero, suc, ◌+◌, ◌^◌, ◌<◌, ◌≤◌, min, Bool, true, false, List, [], ◌∷◌, ◌++◌, length, drop, Option, None, Some, is_some, refl, sym, ap, ◌∙◌, subst, true≢false, arith}
 use Rattle.std.specs.Prelude.{slice_get, option_to_list}
 use Rattle.sr_base.specs.Key.{KeyView, IsKey}
 use Rattle.sr_base.specs.Layout.{LayoutView}
 use Rattle.sr_base.specs.declared.place.Place.{Place}
-use Rattle.sr_shadow.specs.Book.{Book, is_registered, holder_of, IsBook}
+use Rattle.sr_shadow.specs.Book.{is_registered, holder_of, IsBook}
 use Rattle.sr_shadow.specs.VersionCounts.{Counted}
 use Rattle.sr_shadow.specs.Entry.{holds, is_outside, stands_in, settled, left_other}
 use Rattle.sr_shadow.specs.Holders.{IsHolderTable}
 use Rattle.sr_shadow.specs.KeyNumbers.{Numbered}
 use Rattle.sr_shadow.specs.Rivals.{Tallied}
 use Rattle.sr_shadow.specs.Shadow.{IsShadow, HasRoom}
+use Rattle.sr_shadow.specs.ShadowView.{ShadowView}
 use Rattle.sr_shadow.specs.declared.entry.Entry.{Entry}
 use Rattle.sr_shadow.specs.declared.tally.Tally.{Tally}
-use Rattle.sr_shadow.proofs.Books.{distinct_more, distinct_swap, distinct_less, keys_more, keys_swap, keys_less, taken_more, taken_swap, taken_less, few_taken}
+use Rattle.sr_shadow.proofs.Books.{distinct_more, distinct_swap, distinct_less, keys_more, keys_swap, keys_less, leave_more, leave_swap, leave_less, taken_more, taken_swap, taken_less, few_taken}
 use Rattle.sr_shadow.proofs.Classes.{tallied_same}
 use Rattle.sr_shadow.proofs.Lookups.{numbered_same}
 use Rattle.sr_shadow.proofs.Places.{holder_more, holder_same, held_alike, once_less, once_more, once_settled, once_left, once_without}
@@ -33,6 +34,7 @@ shadow_more l es new taken next numbers numbers2 counts counts2 one one2 two two
       book = record {
         distinct = distinct_more es e none h.book.distinct;
         once = once_more es e at also h.book.once;
+        leave = leave_more es e (λ none. also) h.book.leave;
         keys = keys_more es e key h.book.keys;
         rising = taken_more 0 taken es e told h.book.rising;
         most = omega (arith, most);
@@ -55,6 +57,7 @@ shadow_same l front back e f taken numbers counts one two table own version at a
       book = record {
         distinct = distinct_swap front back e f own h.book.distinct;
         once = once_less front back e f h.book.once (λ place. rw (at, also) (omega arith));
+        leave = leave_swap front back e f (λ old none. also ∙ old (sym at ∙ none)) h.book.leave;
         keys = keys_swap front back e f own h.book.keys;
         rising = taken_swap 0 taken front back e f told h.book.rising;
         most = h.book.most;
@@ -75,6 +78,7 @@ shadow_settled l front back e place taken numbers counts one one2 two two2 table
   book = record {
     distinct = distinct_swap front back e (settled place e) refl h.book.distinct;
     once = once_settled place front back e h.book.once alone free;
+    leave = leave_swap front back e (settled place e) (λ old none. absurd (true≢false (ap is_some none))) h.book.leave;
     keys = keys_swap front back e (settled place e) refl h.book.keys;
     rising = taken_swap 0 taken front back e (settled place e) refl h.book.rising;
     most = h.book.most;
@@ -94,6 +98,7 @@ shadow_left l front back e taken numbers counts one two table table2 held h = re
   book = record {
     distinct = distinct_swap front back e (left_other e) refl h.book.distinct;
     once = once_left front back e h.book.once;
+    leave = leave_swap front back e (left_other e) (λ old none. refl) h.book.leave;
     keys = keys_swap front back e (left_other e) refl h.book.keys;
     rising = taken_swap 0 taken front back e (left_other e) refl h.book.rising;
     most = h.book.most;
@@ -113,6 +118,7 @@ shadow_less l front back e taken numbers numbers2 counts counts2 one one2 two tw
   book = record {
     distinct = distinct_less front back e h.book.distinct;
     once = once_without front back e h.book.once;
+    leave = leave_less front back e h.book.leave;
     keys = keys_less front back e h.book.keys;
     rising = taken_less 0 taken front back e h.book.rising;
     most = h.book.most;
@@ -157,8 +163,8 @@ room_left (Some key) a b c d e f g h p q r s t u v w = (omega (arith, p, t), ome
 
 -- books with equal parts
 pub book_is : (l : LayoutView) (r : Option KeyView) (es fs : List Entry) (t u : ℕ) → es ≡ fs → t ≡ u
-    → ◌≡◌ {A = Book} (record { layout = l; entries = es; taken = t; ready = r }) (record { layout = l; entries = fs; taken = u; ready = r })
-book_is l r es fs t u p q = λ i. record { layout = l; entries = p i; taken = q i; ready = r }
+    → ◌≡◌ {A = ShadowView} (record { layout = l; book = record { entries = es; taken = t }; ready = r }) (record { layout = l; book = record { entries = fs; taken = u }; ready = r })
+book_is l r es fs t u p q = λ i. record { layout = l; book = record { entries = p i; taken = q i }; ready = r }
 
 pub shadow_conv : (l : LayoutView) (es ys : List Entry) (t u : ℕ) (numbers : ℕ → Option ℕ) (counts : List ℕ) (one two : ℕ → Option Tally) (table : List (Option KeyView))
     → es ≡ ys → t ≡ u → IsShadow l es t numbers counts one two table → IsShadow l ys u numbers counts one two table

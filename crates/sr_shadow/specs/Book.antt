@@ -2,20 +2,12 @@
 use Rattle.std.specs.Prelude.{◌≡◌, ℕ, ◌+◌, ◌^◌, ◌≤◌, Bool, true, false, not, ◌&&◌, nat_le, List, [], ◌∷◌, ◌++◌, map, filter, find, count_by, sum_by, is_some, Option, Some, None, option_map, if◌then◌else◌}
 use Rattle.std.specs.List.{list_any}
 use Rattle.sr_base.specs.Key.{KeyView, IsKey, same_key}
-use Rattle.sr_base.specs.Layout.{LayoutView}
 use Rattle.sr_base.specs.declared.place.Place.{Place}
 use Rattle.sr_base.specs.declared.shape.Shape.{Shape}
 use Rattle.sr_hash.specs.Clash.{clashes}
 use Rattle.sr_shadow.specs.Entry.{is_of, is_pending, is_placed, is_outside, holds, times_held, has_version, stands_in, fresh, closed, settled, left_other, swept}
+use Rattle.sr_shadow.specs.declared.book.Book.{Book}
 use Rattle.sr_shadow.specs.declared.entry.Entry.{Entry}
-
--- The book: the layout that it was made of, the entries in the order of taking, how many were ever taken, and the key, if any, for whose entry
--- room was made.
-pub record Book : Type 0 where
-  pub layout : LayoutView
-  pub entries : List Entry
-  pub taken : ℕ
-  pub ready : Option KeyView
 
 -- the key's entry
 abbrev pub entry_for : KeyView → List Entry → Option Entry
@@ -33,9 +25,13 @@ pending_from number entries = find (λ e. nat_le number e.taken && is_pending e)
 abbrev pub placed_from : ℕ → List Entry → Option Entry
 placed_from number entries = find (λ e. nat_le number e.taken && is_placed e) entries
 
--- the key of the entry that has the place, as the Live one or as the one that it is about to leave
+-- the entry that has the place, as the Live one or as the one that it is about to leave
+abbrev pub holder_entry : Place → List Entry → Option Entry
+holder_entry place entries = find (holds place) entries
+
+-- its key
 abbrev pub holder_of : Place → List Entry → Option KeyView
-holder_of place entries = option_map (λ e. e.key) (find (holds place) entries)
+holder_of place entries = option_map (λ e. e.key) (holder_entry place entries)
 
 -- how many registered keys have this virtual address and version
 abbrev pub count_of : ℕ → ℕ → List Entry → ℕ
@@ -65,29 +61,27 @@ with_changed change key entries = map (λ e. if is_of key e then change e else e
 abbrev pub without_key : KeyView → List Entry → List Entry
 without_key key entries = filter (λ e. not (is_of key e)) entries
 
+-- the entries once the key is taken with a version, under the number that the next new entry gets: a registered key changes nothing
+abbrev pub entries_with : KeyView → ℕ → ℕ → List Entry → List Entry
+entries_with key version taken entries = if is_registered key entries then entries else (entries ++ fresh key version taken ∷ [])
+
+-- how many were ever taken then
+abbrev pub taken_with : KeyView → ℕ → List Entry → ℕ
+taken_with key taken entries = if is_registered key entries then taken else (taken + 1)
+
 -- the empty book
-abbrev pub opened : LayoutView → Book
-opened layout = record { layout = layout; entries = []; taken = 0; ready = None }
-
--- room is made for the key's entry
-abbrev pub reserved_for : KeyView → Book → Book
-reserved_for key book = record book { ready = Some key }
-
--- room was made for this key
-abbrev pub is_ready : KeyView → Option KeyView → Bool
-is_ready key None = false
-is_ready key (Some ready) = same_key key ready
-
--- the room that is left once a key is taken: the key's own is used, another key's stays
-abbrev pub ready_after : KeyView → Option KeyView → Option KeyView
-ready_after key ready = if is_ready key ready then None else ready
+abbrev pub empty_book : Book
+empty_book = record { entries = []; taken = 0 }
 
 -- the key is registered, as the last entry
 abbrev pub with_new : KeyView → ℕ → Book → Book
-with_new key version book = record book {
-  entries = book.entries ++ fresh key version book.taken ∷ [];
-  taken = book.taken + 1;
-  ready = ready_after key book.ready;
+with_new key version book = record { entries = book.entries ++ fresh key version book.taken ∷ []; taken = book.taken + 1 }
+
+-- the key is taken, and registered so if it wasn't
+abbrev pub with_taken : KeyView → ℕ → Book → Book
+with_taken key version book = record {
+  entries = entries_with key version book.taken book.entries;
+  taken = taken_with key book.taken book.entries;
 }
 
 -- a Close was taken for the key
@@ -127,6 +121,11 @@ abbrev pub DistinctKeys : List Entry → Type 0
 DistinctKeys [] = Unit {0}
 DistinctKeys (e ∷ entries) = (is_registered e.key entries ≡ false) × DistinctKeys entries
 
+-- only a key with a Live place is about to leave one
+abbrev pub PlacedLeave : List Entry → Type 0
+PlacedLeave [] = Unit {0}
+PlacedLeave (e ∷ entries) = (e.place ≡ None → e.also ≡ None) × PlacedLeave entries
+
 -- no place is held twice, by two entries or by one
 abbrev pub HeldOnce : List Entry → Type 0
 HeldOnce entries = (place : Place) → sum_by (times_held place) entries ≤ 1
@@ -145,6 +144,7 @@ TakenFrom low (e ∷ entries) high = (low ≤ e.taken) × TakenFrom (e.taken + 1
 pub record IsBook (entries : List Entry) (taken : ℕ) : Type 0 where
   pub distinct : DistinctKeys entries
   pub once : HeldOnce entries
+  pub leave : PlacedLeave entries
   pub keys : AreKeys entries
   pub rising : TakenFrom 0 entries taken
   pub most : taken ≤ 2 ^ 56

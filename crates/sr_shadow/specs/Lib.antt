@@ -3,9 +3,11 @@ pub mod Entry
 pub mod Holders
 pub mod Index
 pub mod KeyNumbers
+pub mod Moves
 pub mod Plan
 pub mod Rivals
 pub mod Roll
 pub mod Shadow
+pub mod ShadowView
 pub mod Taking
 pub mod VersionCounts

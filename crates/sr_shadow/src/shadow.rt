@@ -1,8 +1,9 @@
 ghost use Rattle.std.specs.Prelude.{◌≡◌, ◌≢◌, ◌↔◌, ◌+◌, ◌^◌, ◌<◌, ◌≤◌, ◌∷◌, ◌++◌, List, length, slice_get, find, count_by, true, false, is_some, option_copied, option_to_list, Option, Some, None, IsOk, IfOk, IsTrue, OnOk, OnErr};
-ghost use Rattle.sr_shadow.specs.Book.{entry_for, is_registered, is_ready, pending_from, placed_from, holder_of, count_of, is_clashing, standing_of, opened, reserved_for, with_changed, with_new, with_closed, with_settled, with_left, with_swept, with_retired, CanSettle, CanLeave, CanSweep, DistinctKeys, IsBook};
+ghost use Rattle.sr_shadow.specs.Book.{entry_for, is_registered, pending_from, placed_from, holder_of, count_of, is_clashing, standing_of, with_changed, with_closed, with_settled, with_left, with_swept, with_retired, CanSettle, CanLeave, CanSweep, DistinctKeys, IsBook};
 ghost use Rattle.sr_shadow.specs.Entry.{fresh, quiet_after};
 ghost use Rattle.sr_shadow.specs.Rivals.{is_outsider, own_outside};
 ghost use Rattle.sr_shadow.specs.Shadow.{CanNote};
+ghost use Rattle.sr_shadow.specs.ShadowView.{opened, reserved_for, is_ready, with_book, with_entered};
 ghost use Rattle.sr_shadow.specs.Taking.{Takes};
 ghost use Rattle.sr_shadow.specs.declared.entry.Entry.{Entry as AnEntry};
 
@@ -35,12 +36,12 @@ pub struct Shadow {
 impl Model for Shadow {
     ghost use Rattle.std.specs.Prelude.{nat_eq};
     ghost use Rattle.indexmap.specs.IndexMap.{get, spare};
-    ghost use Rattle.sr_shadow.specs.Book.{Book};
     ghost use Rattle.sr_shadow.specs.Shadow.{IsShadow, HasRoom};
+    ghost use Rattle.sr_shadow.specs.ShadowView.{ShadowView};
 
-    ghost Value = { Book };
+    ghost Value = { ShadowView };
 
-    ghost view = { λ s. record { layout = s.layout; entries = s.roll.entries; taken = s.roll.taken; ready = s.ready } };
+    ghost view = { λ s. record { layout = s.layout; book = record { entries = s.roll.entries; taken = s.roll.taken }; ready = s.ready } };
 
     ghost invariant = { λ s. IsShadow s.layout s.roll.entries s.roll.taken (get nat_eq s.numbers.map) s.counts (get nat_eq s.first.map) (get nat_eq s.second.map) s.holders.table.items
         × HasRoom s.ready s.roll.room (spare s.numbers.map) (spare s.first.map) (spare s.second.map) };
@@ -67,42 +68,42 @@ impl Shadow {
 
     /// The number that the next new entry gets: how many entries were ever taken.
     pub fn taken(&self) -> u64
-        ensures { result ≡ self.now.taken }
+        ensures { result ≡ self.now.book.taken }
     {
         self.roll.taken()
     }
 
     /// How many keys are registered.
     pub fn len(&self) -> usize
-        ensures { result ≡ length self.now.entries }
+        ensures { result ≡ length self.now.book.entries }
     {
         self.roll.len()
     }
 
     /// The i-th entry in the order of taking, from 0.
     pub fn at(&self, i: usize) -> Option<&Entry>
-        ensures { option_copied result ≡ slice_get self.now.entries i }
+        ensures { option_copied result ≡ slice_get self.now.book.entries i }
     {
         self.roll.at(i)
     }
 
     /// The first entry without a Live place, of those taken from this number on.
     pub fn first_pending(&self, number: u64) -> Option<&Entry>
-        ensures { option_copied result ≡ pending_from number self.now.entries }
+        ensures { option_copied result ≡ pending_from number self.now.book.entries }
     {
         self.roll.first_pending(number)
     }
 
     /// The first entry with a Live place, of those taken from this number on.
     pub fn first_placed(&self, number: u64) -> Option<&Entry>
-        ensures { option_copied result ≡ placed_from number self.now.entries }
+        ensures { option_copied result ≡ placed_from number self.now.book.entries }
     {
         self.roll.first_placed(number)
     }
 
     /// The key's entry. None where it isn't registered.
     pub fn get(&self, key: Key) -> Option<&Entry>
-        ensures { option_copied result ≡ entry_for key self.now.entries }
+        ensures { option_copied result ≡ entry_for key self.now.book.entries }
     {
         key_ranges(key);
         match self.numbers.get(key) {
@@ -113,7 +114,7 @@ impl Shadow {
 
     /// How many registered keys have this virtual address and version.
     pub fn count(&self, vip: u8, version: Version) -> u64
-        ensures { result ≡ count_of vip version self.now.entries }
+        ensures { result ≡ count_of vip version self.now.book.entries }
     {
         if vip < 16 {
             self.counts.count(vip, version)
@@ -125,7 +126,7 @@ impl Shadow {
     /// The key of the entry that has the place, as its own or as the one that it is about to leave. (A place that the layout doesn't have is
     /// looked for entry by entry.)
     pub fn holder(&self, place: Place) -> Option<Key>
-        ensures { result ≡ holder_of place self.now.entries }
+        ensures { result ≡ holder_of place self.now.book.entries }
     {
         match cell(&self.layout, place) {
             Some(at) => self.holders.get(at),
@@ -136,7 +137,7 @@ impl Shadow {
     /// Whether some other registered key outside the full-key table clashes with the key in this way, 1 or 2.
     pub fn clashing(&self, way: u8, key: Key) -> bool
         requires { (1 ≤ way) × (way ≤ 2) }
-        ensures { result ≡ is_clashing self.now.layout.shape way key self.now.entries }
+        ensures { result ≡ is_clashing self.now.layout.shape way key self.now.book.entries }
     {
         let own = own_outside(self.get(key));
         self.outsiders(way, key) > own
@@ -145,7 +146,7 @@ impl Shadow {
     /// How many entries stand in a slot of this way, 1 or 2, and clash with the key in it, its own counted: the key's packets are taken for theirs.
     pub fn standing(&self, way: u8, key: Key) -> u64
         requires { (1 ≤ way) × (way ≤ 2) }
-        ensures { result ≡ standing_of self.now.layout.shape way key self.now.entries }
+        ensures { result ≡ standing_of self.now.layout.shape way key self.now.book.entries }
     {
         if way == 1 {
             self.first.standing(&self.layout, 1, key)
@@ -175,7 +176,7 @@ impl Shadow {
 
     /// Registers a key with this version, as the last entry. `Same` where it is registered already: then nothing changes.
     pub fn take(&mut self, alloc: Global, key: Key, version: Version) -> Result<Took, AllocError>
-        requires { self.old.taken < 2 ^ 56 }
+        requires { self.old.book.taken < 2 ^ 56 }
         ensures { Takes result key version self.old self.new }
     {
         if self.has(key) {
@@ -191,8 +192,8 @@ impl Shadow {
 
     /// Marks the key closed. False where it isn't registered.
     pub fn close(&mut self, key: Key) -> bool
-        ensures found { result ≡ is_registered key self.old.entries }
-        ensures closed { self.new ≡ with_closed key self.old }
+        ensures found { result ≡ is_registered key self.old.book.entries }
+        ensures closed { self.new ≡ with_book (with_closed key) self.old }
     {
         match self.get(key) {
             Some(entry) => {
@@ -207,7 +208,7 @@ impl Shadow {
 
     /// Whether `settle` may be called: the key is registered and about to leave no place, and nobody holds this one.
     pub fn can_settle(&self, key: Key, place: Place) -> bool
-        ensures { IsTrue result ↔ (CanSettle key self.now.entries × (holder_of place self.now.entries ≡ None)) }
+        ensures { IsTrue result ↔ (CanSettle key self.now.book.entries × (holder_of place self.now.book.entries ≡ None)) }
     {
         match self.get(key) {
             Some(entry) => entry.also.is_none() && self.holder(place).is_none(),
@@ -217,9 +218,9 @@ impl Shadow {
 
     /// The key is Live at the place. With a place already held, the old place goes to `also`.
     pub fn settle(&mut self, key: Key, place: Place)
-        requires registered { CanSettle key self.old.entries }
-        requires free { holder_of place self.old.entries ≡ None }
-        ensures { self.new ≡ with_settled key place self.old }
+        requires registered { CanSettle key self.old.book.entries }
+        requires free { holder_of place self.old.book.entries ≡ None }
+        ensures { self.new ≡ with_book (with_settled key place) self.old }
     {
         match self.get(key) {
             Some(entry) => {
@@ -232,7 +233,7 @@ impl Shadow {
 
     /// Whether `leave` may be called: the key is about to leave a place.
     pub fn can_leave(&self, key: Key) -> bool
-        ensures { IsTrue result ↔ CanLeave key self.now.entries }
+        ensures { IsTrue result ↔ CanLeave key self.now.book.entries }
     {
         match self.get(key) {
             Some(entry) => entry.also.is_some(),
@@ -242,8 +243,8 @@ impl Shadow {
 
     /// The key gives up the place that it had before.
     pub fn leave(&mut self, key: Key)
-        requires { CanLeave key self.old.entries }
-        ensures { self.new ≡ with_left key self.old }
+        requires { CanLeave key self.old.book.entries }
+        ensures { self.new ≡ with_book (with_left key) self.old }
     {
         match self.get(key) {
             Some(entry) => {
@@ -256,7 +257,7 @@ impl Shadow {
 
     /// Whether `swept` may be called: the key has a Live place.
     pub fn can_sweep(&self, key: Key) -> bool
-        ensures { IsTrue result ↔ CanSweep key self.now.entries }
+        ensures { IsTrue result ↔ CanSweep key self.now.book.entries }
     {
         match self.get(key) {
             Some(entry) => entry.place.is_some(),
@@ -266,8 +267,8 @@ impl Shadow {
 
     /// A sweep went by the key's place, and found a hit there or found none.
     pub fn swept(&mut self, key: Key, hit: bool)
-        requires { CanSweep key self.old.entries }
-        ensures { self.new ≡ with_swept key hit self.old }
+        requires { CanSweep key self.old.book.entries }
+        ensures { self.new ≡ with_book (with_swept key hit) self.old }
     {
         match self.get(key) {
             Some(entry) => {
@@ -281,8 +282,8 @@ impl Shadow {
 
     /// The connection is over: the key's entry, which the book has no more. None where it isn't registered.
     pub fn retire(&mut self, key: Key) -> Option<Entry>
-        ensures entry { result ≡ entry_for key self.old.entries }
-        ensures retired { self.new ≡ with_retired key self.old }
+        ensures entry { result ≡ entry_for key self.old.book.entries }
+        ensures retired { self.new ≡ with_book (with_retired key) self.old }
     {
         match self.get(key) {
             Some(entry) => {
@@ -296,7 +297,7 @@ impl Shadow {
 
     // Whether the key is registered.
     fn has(&self, key: Key) -> bool
-        ensures { result ≡ is_registered key self.now.entries }
+        ensures { result ≡ is_registered key self.now.book.entries }
     {
         match self.get(key) {
             Some(_) => true,
@@ -307,8 +308,8 @@ impl Shadow {
     // How many registered keys outside the full-key table clash with the key, itself counted.
     fn outsiders(&self, way: u8, key: Key) -> u64
         requires { (1 ≤ way) × (way ≤ 2) }
-        ensures count { result ≡ count_by (is_outsider self.now.layout.shape way key) self.now.entries }
-        ensures distinct { DistinctKeys self.now.entries }
+        ensures count { result ≡ count_by (is_outsider self.now.layout.shape way key) self.now.book.entries }
+        ensures distinct { DistinctKeys self.now.book.entries }
     {
         if way == 1 {
             self.first.outsiders(&self.layout, 1, key)
@@ -319,7 +320,7 @@ impl Shadow {
 
     // Who holds a place, by a look at every entry.
     fn holder_by_entry(&self, place: Place) -> Option<Key>
-        ensures { result ≡ holder_of place self.now.entries }
+        ensures { result ≡ holder_of place self.now.book.entries }
     {
         for i in 0..self.len() {
             match holder_if(self.at(i), place) {
@@ -343,9 +344,9 @@ impl Shadow {
     // A new last entry, for which room was made.
     fn enter(&mut self, key: Key, version: Version)
         requires ready { is_ready key self.old.ready ≡ true }
-        requires new { is_registered key self.old.entries ≡ false }
-        requires most { self.old.taken < 2 ^ 56 }
-        ensures { self.new ≡ with_new key version self.old }
+        requires new { is_registered key self.old.book.entries ≡ false }
+        requires most { self.old.book.taken < 2 ^ 56 }
+        ensures { self.new ≡ with_entered key version self.old }
     {
         key_ranges(key);
         let entry = new_entry(key, version, self.roll.taken());
@@ -360,9 +361,9 @@ impl Shadow {
     // A new last entry, for which no room was made. It finds room for two, so that what was made for another key stays.
     fn enter_beside(&mut self, alloc: Global, key: Key, version: Version) -> Result<(), AllocError>
         requires other { is_ready key self.old.ready ≡ false }
-        requires new { is_registered key self.old.entries ≡ false }
-        requires most { self.old.taken < 2 ^ 56 }
-        ensures ok { OnOk result (self.new ≡ with_new key version self.old) }
+        requires new { is_registered key self.old.book.entries ≡ false }
+        requires most { self.old.book.taken < 2 ^ 56 }
+        ensures ok { OnOk result (self.new ≡ with_entered key version self.old) }
         ensures err { OnErr result (self.new ≡ self.old) }
     {
         key_ranges(key);
@@ -381,8 +382,8 @@ impl Shadow {
 
     // An entry in the place of the key's, from which the indexes can't tell it.
     fn note(&mut self, key: Key, entry: Entry)
-        requires { CanNote key entry self.old.entries }
-        ensures { (change : AnEntry → AnEntry) (e : AnEntry) → entry_for key self.old.entries ≡ Some e → entry ≡ change e → self.new ≡ record self.old { entries = with_changed change key self.old.entries } }
+        requires { CanNote key entry self.old.book.entries }
+        ensures { (change : AnEntry → AnEntry) (e : AnEntry) → entry_for key self.old.book.entries ≡ Some e → entry ≡ change e → self.new ≡ with_book (λ b. record b { entries = with_changed change key b.entries }) self.old }
     {
         let number = entry.taken;
         self.roll.put(number, Some(entry));
@@ -390,10 +391,10 @@ impl Shadow {
 
     // The key's entry moves to a place that nobody holds.
     fn move_entry(&mut self, key: Key, entry: &Entry, place: Place)
-        requires registered { entry_for key self.old.entries ≡ Some entry.now }
+        requires registered { entry_for key self.old.book.entries ≡ Some entry.now }
         requires alone { entry.now.also ≡ None }
-        requires free { holder_of place self.old.entries ≡ None }
-        ensures { self.new ≡ with_settled key place self.old }
+        requires free { holder_of place self.old.book.entries ≡ None }
+        ensures { self.new ≡ with_book (with_settled key place) self.old }
     {
         let moved = Entry {
             key: entry.key,
@@ -412,8 +413,8 @@ impl Shadow {
 
     // The key's entry gives up the place that it had before.
     fn leave_place(&mut self, key: Key, entry: &Entry)
-        requires { entry_for key self.old.entries ≡ Some entry.now }
-        ensures { self.new ≡ with_left key self.old }
+        requires { entry_for key self.old.book.entries ≡ Some entry.now }
+        ensures { self.new ≡ with_book (with_left key) self.old }
     {
         let left = Entry {
             key: entry.key,
@@ -430,8 +431,8 @@ impl Shadow {
 
     // The key's entry goes.
     fn drop_entry(&mut self, key: Key, entry: &Entry)
-        requires { entry_for key self.old.entries ≡ Some entry.now }
-        ensures { self.new ≡ with_retired key self.old }
+        requires { entry_for key self.old.book.entries ≡ Some entry.now }
+        ensures { self.new ≡ with_book (with_retired key) self.old }
     {
         self.numbers.drop_out(key);
         self.counts.drop_out(entry);
@@ -486,7 +487,7 @@ fn holder_if(entry: Option<&Entry>, place: Place) -> Option<Key>
 /// What holds of every book: no key has two entries, no place is held twice, the keys are in range, and the numbers rise and are below the
 /// number of entries that were ever taken, which is at most 2^56.
 pub fn book_rules(shadow: &Shadow)
-    ensures { IsBook shadow.now.entries shadow.now.taken }
+    ensures { IsBook shadow.now.book.entries shadow.now.book.taken }
 {
     let _ = &shadow.layout;
 }

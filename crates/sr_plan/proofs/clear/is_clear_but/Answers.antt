@@ -6,7 +6,7 @@ use Rattle.sr_plan.proofs.clear.is_clear_but.Goals as goal
 
 pub returns : goal.returns
 returns c =
-    let es = c.args.shadow.now.entries in
+    let es = c.args.shadow.now.book.entries in
     let key = c.args.key in
     let shape = c.args.layout.now.shape in
     let first = c.standing.ensures ∙ ap (λ l. standing_of l.shape 1 key es) c.requires.made in

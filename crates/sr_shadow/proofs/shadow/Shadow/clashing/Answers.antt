@@ -9,7 +9,7 @@ returns c =
     grind (
       arith,
       nat_tests,
-      clashing_counted c.args.self.now.layout.shape c.args.way c.args.key c.args.self.now.entries c.outsiders.ensures.distinct,
+      clashing_counted c.args.self.now.layout.shape c.args.way c.args.key c.args.self.now.book.entries c.outsiders.ensures.distinct,
       c.outsiders.ensures.count,
       ap own_outside c.get.ensures,
       c.own_outside-own.ensures,

@@ -37,11 +37,11 @@ invariant_of-self-2 c =
     let h = c.self.invariant.0 in
     let es = c.self.inside.roll.entries in
     let made = c.new_entry-entry.ensures in
-    let none : is_registered c.args.key es ≡ false = ap (λ b. is_registered c.args.key b.entries) c.self.view_is ∙ c.requires.new in (
+    let none : is_registered c.args.key es ≡ false = ap (λ s. is_registered c.args.key s.book.entries) c.self.view_is ∙ c.requires.new in (
       shadow_more c.self.inside.layout es _ c.self.inside.roll.taken _ _ _ _ _ _ _ _ _ _ _ (c.push.ensures.entries ∙ ap (λ (ys : List Entry). ys ++ c.new_entry-entry.result ∷ []) c.reserve.ensures.entries) (c.push.ensures.taken ∙ ap (λ (n : ℕ). n + 1) c.reserve.ensures.taken)
           (subst (λ (e : Entry). IsKey e.key) (sym made) c.key_ranges.ensures) (subst (λ (e : Entry). is_registered e.key es ≡ false) (sym made) none)
           (ap (λ (e : Entry). e.taken) made ∙ c.taken.ensures ∙ c.reserve.ensures.taken) (ap (λ (e : Entry). e.place) made) (ap (λ (e : Entry). e.also) made)
-          (omega (arith, ap (λ b. b.taken) c.self.view_is, c.requires.most))
+          (omega (arith, ap (λ s. s.book.taken) c.self.view_is, c.requires.most))
           (c.join.ensures.more es _ (ap (λ (e : Entry). e.key) made) refl none (rw c.reserve-2.ensures.same h.numbered)) (c.join-2.ensures es h.counted) (c.join-3.ensures.more es (rw c.reserve-3.ensures.same h.first))
           (c.join-4.ensures.more es (rw c.reserve-4.ensures.same h.second)) h,
       room_left c.self.inside.ready _ _ _ _ _ _ _ _ c.in_ok-reserve.ensures.room c.in_ok-reserve-2.ensures.room c.in_ok-reserve-3.ensures.room c.in_ok-reserve-4.ensures.room c.push.ensures.room c.join.ensures.room c.join-3.ensures.room c.join-4.ensures.room,

@@ -1,13 +1,14 @@
 use Rattle.std.proofs.Common.{refl, sym, ap, ◌∙◌, arith}
 use Rattle.sr_shadow.specs.Book.{entry_for, holder_of, with_changed, with_settled}
 use Rattle.sr_shadow.specs.Entry.{settled}
+use Rattle.sr_shadow.specs.ShadowView.{with_book}
 use Rattle.sr_shadow.proofs.Keeping.{book_is, few_entries, room_more, shadow_conv, shadow_settled}
 use Rattle.sr_shadow.proofs.Splits.{split, changed_split}
 use Rattle.sr_shadow.proofs.shadow.Shadow.move_entry.Goals as goal
 
 pub swap-requires-clause-has : goal.swap-requires-clause-has
 swap-requires-clause-has c =
-    let s = split c.args.key c.self.inside.roll.entries c.args.entry.now c.self.invariant.0.book.distinct (ap (λ b. entry_for c.args.key b.entries) c.self.view_is ∙ c.requires.registered) in
+    let s = split c.args.key c.self.inside.roll.entries c.args.entry.now c.self.invariant.0.book.distinct (ap (λ s. entry_for c.args.key s.book.entries) c.self.view_is ∙ c.requires.registered) in
     (s.front, s.back, (shadow_conv _ _ _ _ _ _ _ _ _ _ s.is refl c.self.invariant.0).first)
 
 pub swap-requires-clause-few : goal.swap-requires-clause-few
@@ -15,7 +16,7 @@ swap-requires-clause-few c = let h = c.self.invariant.0 in (c.self.inside.roll.e
 
 pub swap-requires-2-clause-has : goal.swap-requires-2-clause-has
 swap-requires-2-clause-has c =
-    let s = split c.args.key c.self.inside.roll.entries c.args.entry.now c.self.invariant.0.book.distinct (ap (λ b. entry_for c.args.key b.entries) c.self.view_is ∙ c.requires.registered) in
+    let s = split c.args.key c.self.inside.roll.entries c.args.entry.now c.self.invariant.0.book.distinct (ap (λ s. entry_for c.args.key s.book.entries) c.self.view_is ∙ c.requires.registered) in
     (s.front, s.back, (shadow_conv _ _ _ _ _ _ _ _ _ _ s.is refl c.self.invariant.0).second)
 
 pub swap-requires-2-clause-few : goal.swap-requires-2-clause-few
@@ -23,15 +24,15 @@ swap-requires-2-clause-few c = let h = c.self.invariant.0 in (c.self.inside.roll
 
 pub put-requires-clause-has : goal.put-requires-clause-has
 put-requires-clause-has c =
-    let s = split c.args.key c.self.inside.roll.entries c.args.entry.now c.self.invariant.0.book.distinct (ap (λ b. entry_for c.args.key b.entries) c.self.view_is ∙ c.requires.registered) in
+    let s = split c.args.key c.self.inside.roll.entries c.args.entry.now c.self.invariant.0.book.distinct (ap (λ s. entry_for c.args.key s.book.entries) c.self.view_is ∙ c.requires.registered) in
     (s.front, s.back, c.args.entry.now, s.is, refl)
 
 pub invariant_of-self : goal.invariant_of-self
 invariant_of-self c =
     let e = c.args.entry.now in
-    let s = split c.args.key c.self.inside.roll.entries e c.self.invariant.0.book.distinct (ap (λ b. entry_for c.args.key b.entries) c.self.view_is ∙ c.requires.registered) in
+    let s = split c.args.key c.self.inside.roll.entries e c.self.invariant.0.book.distinct (ap (λ s. entry_for c.args.key s.book.entries) c.self.view_is ∙ c.requires.registered) in
     let h = shadow_conv _ _ _ _ _ _ _ _ _ _ s.is refl c.self.invariant.0 in
-    let free = sym (ap (holder_of c.args.place) s.is) ∙ ap (λ b. holder_of c.args.place b.entries) c.self.view_is ∙ c.requires.free in (
+    let free = sym (ap (holder_of c.args.place) s.is) ∙ ap (λ s. holder_of c.args.place s.book.entries) c.self.view_is ∙ c.requires.free in (
       shadow_conv _ _ _ _ _ _ _ _ _ _ (sym (c.put.ensures.entries s.front s.back e s.is refl)) (sym c.put.ensures.taken)
           (shadow_settled _ s.front s.back e c.args.place _ _ _ _ _ _ _ _ _ c.requires.alone free (c.swap.ensures.swapped s.front s.back h.first) (c.swap-2.ensures.swapped s.front s.back h.second)
           (c.settle.ensures s.front s.back h.book.once c.requires.alone free h.held) h),
@@ -41,8 +42,8 @@ invariant_of-self c =
 pub returns : goal.returns
 returns c =
     let e = c.args.entry.now in
-    let s = split c.args.key c.self.inside.roll.entries e c.self.invariant.0.book.distinct (ap (λ b. entry_for c.args.key b.entries) c.self.view_is ∙ c.requires.registered) in
+    let s = split c.args.key c.self.inside.roll.entries e c.self.invariant.0.book.distinct (ap (λ s. entry_for c.args.key s.book.entries) c.self.view_is ∙ c.requires.registered) in
     book_is c.self.inside.layout c.self.inside.ready _ _ _ _
     (c.put.ensures.entries s.front s.back e s.is refl ∙ sym (changed_split (settled c.args.place) c.args.key s.front s.back e s.own s.before s.after) ∙ ap (with_changed (settled c.args.place) c.args.key) (sym s.is))
     c.put.ensures.taken
-    ∙ ap (with_settled c.args.key c.args.place) c.self.view_is
+    ∙ ap (with_book (with_settled c.args.key c.args.place)) c.self.view_is

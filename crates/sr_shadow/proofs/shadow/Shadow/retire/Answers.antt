@@ -4,4 +4,4 @@ use Rattle.sr_shadow.proofs.shadow.Shadow.retire.Goals as goal
 
 pub returns-in-None-clause-retired : goal.returns-in-None-clause-retired
 returns-in-None-clause-retired c =
-    sym (ap (λ es. record c.args.self.now { entries = es }) (without_none c.args.key c.args.self.now.entries (registered_none c.args.key c.args.self.now.entries (sym c.in-None.ensures))))
+    sym (ap (λ es. record c.args.self.now { book = record c.args.self.now.book { entries = es } }) (without_none c.args.key c.args.self.now.book.entries (registered_none c.args.key c.args.self.now.book.entries (sym c.in-None.ensures))))
