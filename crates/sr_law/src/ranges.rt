@@ -1,5 +1,6 @@
 ghost use Rattle.std.specs.Prelude.{◌≡◌, ◌≤◌};
-ghost use Rattle.sr_law.specs.Ranges.{vip_of, pipe_of, server_named, if_below, is_place_of, names_own_place, in_range};
+ghost use Rattle.sr_hash.specs.Uses.{is_place_of};
+ghost use Rattle.sr_law.specs.Ranges.{vip_of, pipe_of, server_named, if_below, names_own_place, in_range};
 
 use crate::{Line, Setup};
 use sr_base::{Key, Place, Shape};

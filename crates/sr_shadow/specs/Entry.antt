@@ -11,6 +11,11 @@ abbrev pub is_at : Place → Option Place → Bool
 is_at place None = false
 is_at place (Some held) = same_place place held
 
+-- the place is a slot
+abbrev pub is_slot : Place → Bool
+is_slot (Slot way bucket cell) = true
+is_slot (Row row) = false
+
 -- a row of the full-key table
 abbrev pub is_row : Option Place → Bool
 is_row None = false
