@@ -1,6 +1,9 @@
 -- What each of the ten hashes of a key is for.
-use Rattle.std.specs.Prelude.{ℕ, ◌+◌, ◌/◌, ◌%◌, ◌^◌, List, [], ◌∷◌}
+use Rattle.std.specs.Prelude.{ℕ, ◌+◌, ◌/◌, ◌%◌, ◌^◌, Bool, ◌&&◌, ◌||◌, ◌==◌, nat_lt, List, [], ◌∷◌}
 use Rattle.sr_base.specs.Key.{KeyView}
+use Rattle.sr_base.specs.declared.place.Place.{Place}
+use Rattle.sr_base.specs.declared.place.Place.TheVariants.{Slot, Row}
+use Rattle.sr_base.specs.declared.shape.Shape.{Shape}
 use Rattle.sr_hash.specs.Keyed.{hash_of}
 
 -- the place of a pool of this size
@@ -26,3 +29,8 @@ group_of key rows = hash_of 8 key % (rows / 4)
 -- the pipe, of so many
 abbrev pub pipe_number : KeyView → ℕ → ℕ
 pipe_number key pipes = hash_of 9 key % pipes
+
+-- a place of the key: a cell of its bucket of that way, or a row of its group
+abbrev pub is_place_of : Shape → KeyView → Place → Bool
+is_place_of shape key (Slot way bucket cell) = ((way == 1) || (way == 2)) && (bucket == bucket_of way key shape.buckets) && nat_lt cell 4
+is_place_of shape key (Row row) = row / 4 == group_of key shape.full_rows

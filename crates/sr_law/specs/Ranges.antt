@@ -1,10 +1,7 @@
 -- Order, in part: each number of a line is in its range, and each place is one of its key.
-use Rattle.std.specs.Prelude.{ℕ, ◌/◌, Bool, true, ◌&&◌, ◌||◌, ◌==◌, nat_lt, length, Option, Some, None, option_map}
-use Rattle.sr_base.specs.Key.{KeyView}
-use Rattle.sr_base.specs.declared.place.Place.{Place}
-use Rattle.sr_base.specs.declared.place.Place.TheVariants.{Slot, Row}
+use Rattle.std.specs.Prelude.{ℕ, Bool, true, ◌&&◌, nat_lt, length, Option, Some, None, option_map}
 use Rattle.sr_base.specs.declared.shape.Shape.{Shape}
-use Rattle.sr_hash.specs.Uses.{bucket_of, group_of}
+use Rattle.sr_hash.specs.Uses.{is_place_of}
 use Rattle.sr_law.specs.declared.line.Line.{Line}
 use Rattle.sr_law.specs.declared.line.Line.TheVariants.{Packet, Answer, Given, Recorded, Hold, Switched, Finished, TakenDown, Reserved, Placed, Cleared}
 use Rattle.sr_law.specs.Setup.{SetupView}
@@ -34,11 +31,6 @@ server_named line = option_map (λ choice. choice.server) (choice_of line)
 abbrev pub if_below : ℕ → Option ℕ → Bool
 if_below limit None = true
 if_below limit (Some n) = nat_lt n limit
-
--- a place of the key: a cell of its bucket of that way, or a row of its group
-abbrev pub is_place_of : Shape → KeyView → Place → Bool
-is_place_of shape key (Slot way bucket cell) = ((way == 1) || (way == 2)) && (bucket == bucket_of way key shape.buckets) && nat_lt cell 4
-is_place_of shape key (Row row) = row / 4 == group_of key shape.full_rows
 
 -- a line that names a place names one of its key
 abbrev pub names_own_place : Shape → Line → Bool

@@ -14,7 +14,7 @@ use Rattle.sr_shadow.specs.Entry.{is_of, is_placed, is_slot_in}
 use Rattle.sr_shadow.specs.Plan.{clashes_at, is_clear_but, is_mistaken, is_mistaken_but}
 use Rattle.sr_shadow.specs.declared.entry.Entry.{Entry}
 use Rattle.sr_plan.specs.Clear.{mistaken_one}
-use Rattle.sr_plan.specs.Moves.{NonePlaced}
+use Rattle.sr_shadow.specs.Moves.{NonePlaced}
 use Rattle.sr_base.proofs.Sameness.{same_key-true}
 use Rattle.sr_shadow.proofs.Classes.{any_counted}
 

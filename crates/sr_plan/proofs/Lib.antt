@@ -1,10 +1,2 @@
 mod Clearing
-mod Holding
-mod Later
-mod Listing
-mod Marking
-mod MovedEntry
-mod Moving
-mod NewEntry
-mod PlannedSlot
-mod Usable
+mod PassingOver

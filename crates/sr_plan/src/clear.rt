@@ -1,11 +1,10 @@
 ghost use Rattle.std.specs.Prelude.{◌≡◌, option_copied};
-ghost use Rattle.sr_shadow.specs.Plan.{clashes_at, is_clear_but, is_mistaken_but};
+ghost use Rattle.sr_shadow.specs.Plan.{is_clear_but};
 ghost use Rattle.sr_plan.specs.Clear.{mistaken_one};
-ghost use Rattle.sr_plan.specs.Moves.{NonePlaced};
+ghost use Rattle.sr_shadow.specs.Moves.{NonePlaced};
 
-use sr_base::{Key, Layout, Place, layout_ranges};
-use sr_hash::clashes;
-use sr_shadow::{Entry, Shadow, book_rules};
+use sr_base::{Key, Layout};
+use sr_shadow::{Entry, Shadow, book_rules, is_mistaken};
 
 // Whether the key's packets are taken for those of no entry but, perhaps, that of one other key. Those that they are taken for stand in slots and
 // clash with the key there; the key itself stands nowhere.
@@ -25,33 +24,12 @@ fn mistaken_one(layout: &Layout, key: Key, entry: Option<&Entry>) -> u64
 {
     match entry {
         Some(entry) => {
-            if !key.same(entry.key) && clashes_at(layout, key, entry) {
+            if is_mistaken(layout, key, entry) {
                 1
             } else {
                 0
             }
         }
         None => 0,
-    }
-}
-
-// Whether the key's packets are taken for those of this entry, which isn't the other key's.
-pub(crate) fn is_mistaken_but(layout: &Layout, key: Key, other: Key, entry: &Entry) -> bool
-    ensures { result ≡ is_mistaken_but layout.now.shape key other entry.now }
-{
-    !other.same(entry.key) && (!key.same(entry.key) && clashes_at(layout, key, entry))
-}
-
-// Whether the entry's Live place is a slot of a way in which its key clashes with this one.
-fn clashes_at(layout: &Layout, key: Key, entry: &Entry) -> bool
-    ensures { result ≡ clashes_at layout.now.shape key entry.now.key entry.now.place }
-{
-    layout_ranges(layout);
-    match entry.place {
-        Some(Place::Slot { way, .. }) => {
-            (way == 1 || way == 2) && clashes(layout.shape(), way, key, entry.key)
-        }
-        Some(Place::Row { .. }) => false,
-        None => false,
     }
 }

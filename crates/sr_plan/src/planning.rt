@@ -28,7 +28,7 @@ pub fn plan(shadow: &Shadow, layout: &Layout, key: Key) -> Plan
 }
 
 // The key's first usable slot, if the key is clear.
-#[tactic(auto, using(crate::proofs::Holding::none_placed))]
+#[tactic(auto, using(sr_shadow::proofs::Holding::none_placed))]
 fn slot(shadow: &Shadow, layout: &Layout, key: Key) -> Option<Plan>
     requires made { shadow.now.layout ≡ layout.now }
     requires unplaced { IsUnplaced key shadow.now.book.entries }
@@ -44,7 +44,7 @@ fn slot(shadow: &Shadow, layout: &Layout, key: Key) -> Option<Plan>
 }
 
 // The first move.
-#[tactic(auto, using(crate::proofs::Holding::none_placed))]
+#[tactic(auto, using(sr_shadow::proofs::Holding::none_placed))]
 fn moves(shadow: &Shadow, layout: &Layout, key: Key) -> Option<Plan>
     requires made { shadow.now.layout ≡ layout.now }
     requires unplaced { IsUnplaced key shadow.now.book.entries }

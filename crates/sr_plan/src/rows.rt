@@ -1,11 +1,10 @@
 ghost use Rattle.std.specs.Prelude.{◌≡◌, find};
-ghost use Rattle.sr_shadow.specs.Plan.{key_rows, row_plan, is_free};
+ghost use Rattle.sr_shadow.specs.Plan.{row_plan, is_free};
 ghost use Rattle.sr_base.specs.declared.place.Place.TheVariants.{Row};
 
 use crate::slots::is_free;
-use sr_base::{Key, Layout, Place, layout_ranges};
-use sr_hash::group;
-use sr_shadow::{Plan, Shadow};
+use sr_base::{Key, Layout, Place};
+use sr_shadow::{Plan, Shadow, key_rows};
 
 // The first row of the key's group that nobody holds.
 pub(crate) fn first_row(shadow: &Shadow, layout: &Layout, key: Key) -> Option<Plan>
@@ -16,15 +15,6 @@ pub(crate) fn first_row(shadow: &Shadow, layout: &Layout, key: Key) -> Option<Pl
         Some(row) => Some(Plan::FullKey { row }),
         None => None,
     }
-}
-
-// The four rows of the key's group.
-pub(crate) fn key_rows(layout: &Layout, key: Key) -> [u32; 4]
-    ensures { result ≡ key_rows layout.now.shape key }
-{
-    layout_ranges(layout);
-    let first = 4 * group(key, layout.shape().full_rows);
-    [first, first + 1, first + 2, first + 3]
 }
 
 // The first of these rows that nobody holds.

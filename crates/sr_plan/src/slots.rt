@@ -1,55 +1,8 @@
 ghost use Rattle.std.specs.Prelude.{◌≡◌, ◌≤◌, find};
-ghost use Rattle.sr_shadow.specs.Plan.{first_usable, is_free, key_slots, slots_in, slots_of};
+ghost use Rattle.sr_shadow.specs.Plan.{first_usable, is_free, key_slots, slots_of};
 
-use sr_base::{Key, Layout, Place, layout_ranges};
-use sr_hash::bucket;
-use sr_shadow::Shadow;
-
-// The four slots of a bucket.
-fn slots_in(way: u8, bucket: u32) -> [Place; 4]
-    ensures { result ≡ slots_in way bucket }
-{
-    [
-        Place::Slot {
-            way,
-            bucket,
-            cell: 0,
-        },
-        Place::Slot {
-            way,
-            bucket,
-            cell: 1,
-        },
-        Place::Slot {
-            way,
-            bucket,
-            cell: 2,
-        },
-        Place::Slot {
-            way,
-            bucket,
-            cell: 3,
-        },
-    ]
-}
-
-// Those of the key's bucket of a way.
-pub(crate) fn slots_of(layout: &Layout, way: u8, key: Key) -> [Place; 4]
-    requires way { (1 ≤ way) × (way ≤ 2) }
-    ensures { result ≡ slots_of layout.now.shape way key }
-{
-    layout_ranges(layout);
-    slots_in(way, bucket(way, key, layout.shape().buckets))
-}
-
-// Those of both ways.
-pub(crate) fn key_slots(layout: &Layout, key: Key) -> [Place; 8]
-    ensures { result ≡ key_slots layout.now.shape key }
-{
-    let [a, b, c, d] = slots_of(layout, 1, key);
-    let [e, f, g, h] = slots_of(layout, 2, key);
-    [a, b, c, d, e, f, g, h]
-}
+use sr_base::{Key, Layout, Place};
+use sr_shadow::{Shadow, slots_of};
 
 // Whether nobody holds a place.
 pub(crate) fn is_free(shadow: &Shadow, place: Place) -> bool
@@ -70,17 +23,18 @@ pub(crate) fn first_free(shadow: &Shadow, places: &[Place]) -> Option<Place>
     None
 }
 
-// The key's first usable slot in its bucket of a way.
-#[tactic(auto, using(crate::proofs::Usable::usable_slot))]
+// The key's first usable slot in its bucket of a way. Whether there is a free one at all is a look at a table, and asked first.
+#[tactic(auto, using(sr_shadow::proofs::Usable::usable_slot))]
 fn usable_in(shadow: &Shadow, layout: &Layout, way: u8, key: Key) -> Option<Place>
     requires made { shadow.now.layout ≡ layout.now }
     requires way { (1 ≤ way) × (way ≤ 2) }
     ensures { result ≡ first_usable layout.now.shape shadow.now.book.entries key (slots_of layout.now.shape way key) }
 {
+    let place = first_free(shadow, &slots_of(layout, way, key))?;
     if shadow.clashing(way, key) {
         None
     } else {
-        first_free(shadow, &slots_of(layout, way, key))
+        Some(place)
     }
 }
 

@@ -2,8 +2,8 @@ ghost use Rattle.std.specs.Prelude.{◌≡◌, true};
 ghost use Rattle.sr_shadow.specs.Plan.{IsUnplaced};
 
 use sr_base::{Key, Layout, Place, Version};
-use sr_plan::{Plan, plan, plan_plain};
-use sr_shadow::Shadow;
+use sr_plan::{Plan, plan};
+use sr_shadow::{Shadow, plan_plain};
 use std::alloc::{AllocError, Global};
 
 /// A book, and the layout that it was made of.
@@ -95,7 +95,7 @@ impl Scene {
 }
 
 fn may_plan(book: &Shadow, key: Key) -> bool
-    ensures { result ≡ true → IsUnplaced key book.now.entries }
+    ensures { result ≡ true → IsUnplaced key book.now.book.entries }
 {
     match book.get(key) {
         Some(entry) => entry.place.is_none(),

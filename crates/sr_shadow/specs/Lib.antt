@@ -3,6 +3,7 @@ pub mod Entry
 pub mod Holders
 pub mod Index
 pub mod KeyNumbers
+pub mod Moves
 pub mod Plan
 pub mod Rivals
 pub mod Roll

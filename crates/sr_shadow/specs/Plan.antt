@@ -10,9 +10,9 @@ use Rattle.sr_base.specs.declared.place.Place.{Place}
 use Rattle.sr_base.specs.declared.place.Place.TheVariants.{Slot, Row}
 use Rattle.sr_base.specs.declared.shape.Shape.{Shape}
 use Rattle.sr_hash.specs.Clash.{clashes}
-use Rattle.sr_hash.specs.Uses.{bucket_of, group_of}
+use Rattle.sr_hash.specs.Uses.{bucket_of, group_of, is_place_of}
 use Rattle.sr_shadow.specs.Book.{entry_for, entries_with, holder_of, is_clashing, with_changed}
-use Rattle.sr_shadow.specs.Entry.{is_at, is_of, is_outside}
+use Rattle.sr_shadow.specs.Entry.{is_at, is_of, is_outside, is_slot}
 use Rattle.sr_shadow.specs.declared.entry.Entry.{Entry}
 use Rattle.sr_shadow.specs.declared.plan.Plan.{Plan}
 use Rattle.sr_shadow.specs.declared.plan.Plan.TheVariants as plan
@@ -187,3 +187,36 @@ pub record KeepsPlaces (e f : Entry) : Type 0 where
   pub key : f.key ≡ e.key
   pub place : f.place ≡ e.place
   pub also : f.also ≡ e.also
+
+-- ---- what a plan gives
+
+-- nobody is about to leave a place
+abbrev pub NobodyLeaves : List Entry → Type 0
+NobodyLeaves [] = Unit {0}
+NobodyLeaves (e ∷ es) = (e.also ≡ None) × NobodyLeaves es
+
+-- a planned slot is one of the key's, usable and held by nobody, and the key is clear
+pub record GivesSlot (shape : Shape) (es : List Entry) (key : KeyView) (place : Place) : Type 0 where
+  pub slot : is_slot place ≡ true
+  pub own : is_place_of shape key place ≡ true
+  pub free : holder_of place es ≡ None
+  pub usable : is_usable shape es key place ≡ true
+  pub clear : is_clear shape es key ≡ true
+
+-- a planned row is one of the key's group, and held by nobody
+pub record GivesRow (shape : Shape) (es : List Entry) (key : KeyView) (row : ℕ) : Type 0 where
+  pub own : is_place_of shape key (Row row) ≡ true
+  pub free : holder_of (Row row) es ≡ None
+
+-- a planned move is from a slot of the key to a slot of the other key, usable for it and held by nobody, and for a slot of the key; the key is
+-- clear but for the other
+pub record GivesMove (shape : Shape) (es : List Entry) (key other : KeyView) (from to last : Place) : Type 0 where
+  pub from_slot : is_slot from ≡ true
+  pub from_own : is_place_of shape key from ≡ true
+  pub to_slot : is_slot to ≡ true
+  pub to_own : is_place_of shape other to ≡ true
+  pub to_free : holder_of to es ≡ None
+  pub to_usable : is_usable shape (with_key key es) other to ≡ true
+  pub last_slot : is_slot last ≡ true
+  pub last_own : is_place_of shape key last ≡ true
+  pub clear : is_clear_but shape es key other ≡ true

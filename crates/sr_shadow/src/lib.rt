@@ -7,7 +7,9 @@
 //! | `entry`, `took` | an entry, and what taking a key answers |
 //! | `book` | the book as a plain value |
 //! | `shadow` | the book, and its calls |
-//! | `plan` | how a key is placed; the first way there is stands in `specs/Plan.antt`, and `sr_plan` finds it |
+//! | `plan` | how a key is placed; the first way there is stands in `specs/Plan.antt`, and `sr_plan` finds it by a few look-ups |
+//! | `laws`, `plain` | what the first way means, and a body that finds it by walks over the list |
+//! | `own_places`, `mistaking` | the slots and rows of a key, and whose packets are taken for whose |
 //! | `roll`, `slot_marks` | the entries in the order of taking, and marks of those without and with a Live place |
 //! | `key_numbers`, `version_counts` | what finds a key's entry, how many keys have a version |
 //! | `rivals`, `tally`, `holders` | who clashes with a key, how many of them there are, who holds a place |
@@ -17,6 +19,10 @@ mod book;
 mod entry;
 mod holders;
 mod key_numbers;
+mod laws;
+mod mistaking;
+mod own_places;
+mod plain;
 mod plan;
 mod rivals;
 mod roll;
@@ -28,6 +34,13 @@ mod version_counts;
 
 pub use book::Book;
 pub use entry::Entry;
+pub use laws::{
+    later_ways, marks_change_no_plan, moves_make_room, moves_stay_apart, own_places_stand,
+    plans_give, slots_make_no_room, slots_stay_apart, taking_makes_no_room,
+};
+pub use mistaking::is_mistaken;
+pub use own_places::{key_rows, key_slots, other_way, slots_of};
+pub use plain::{plan_over, plan_plain};
 pub use plan::Plan;
 pub use shadow::{Shadow, book_rules};
 pub use took::Took;

@@ -1,0 +1,7 @@
+pub mod Following
+pub mod Kept
+mod PacketSteps
+mod Rows
+mod Scenes
+mod TurnSteps
+pub mod Words

@@ -1,0 +1,7 @@
+use Rattle.std.proofs.Common.{◌≡◌, drop}
+use Rattle.sr_shadow.specs.Plan.{first_move, move_plan}
+use Rattle.sr_shadow.proofs.plain.move_plan.Given as goal
+
+-- the first is from one of the slots that are left
+abbrev pub invariant-loop-slot : goal.invariant-loop-slot
+invariant-loop-slot l = first_move l.layout.shape l.es l.key (drop l.slot-index l.slot-items) ≡ move_plan l.layout.shape l.es l.key

@@ -1,0 +1,4 @@
+pub mod Bits
+pub mod Dues
+pub mod Rows
+pub mod States
