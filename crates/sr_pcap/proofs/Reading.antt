@@ -125,9 +125,10 @@ looks_whole header format offset first second xs before left spells p whole q =
     let front = pending_front first before xs 16 spells.whole p in
     let long = pending_long second left xs q in
     let size = spells.size in
-    let within = spells.few in
-    (next_whole format offset xs (take 16 first.unread) (omega arith) (sym front) (omega arith) (omega (arith, length-drop 16 xs)) ∙ ap (λ (t : ℕ). Whole t offset) (sym spells.ms),
-    spells.size ∙ ap (captured_length format) (sym front))
+    let within = spells.few in (
+      next_whole format offset xs (take 16 first.unread) (omega arith) (sym front) (omega arith) (omega (arith, length-drop 16 xs)) ∙ ap (λ (t : ℕ). Whole t offset) (sym spells.ms),
+      spells.size ∙ ap (captured_length format) (sym front),
+    )
 
 -- and it was used
 pub takes_record : (header : RecordHeader) (format : Format) (offset : ℕ) (w : WindowView) (xs : List ℕ) (left : Option (List ℕ)) (reader : ReaderView) → Looks (Ok header) format offset xs left
@@ -175,7 +176,7 @@ record_taken format offset after size w v ended going there used at =
     let first : length (take (16 + size) w.unread) - size ≡ 16 = omega arith in
     let few : size ≤ length (drop 16 w.unread) = omega (arith, length-drop 16 w.unread) in
     let bytes : drop (length (take (16 + size) w.unread) - size) (take (16 + size) w.unread) ≡ take size (drop 16 w.unread) =
-        ap (λ n. drop n (take (16 + size) w.unread)) first ∙ drop-take 16 size w.unread in
+    ap (λ n. drop n (take (16 + size) w.unread)) first ∙ drop-take 16 size w.unread in
     let count : size ≡ length (take size (drop 16 w.unread)) = sym (length-take-le size (drop 16 w.unread) few) in
     ap (λ (u : WindowView). record { format = format; offset = after; bytes = drop (length u.used - size) u.used; window = u; ended = ended }) used
     ∙ ap (λ (ys : List ℕ). record { format = format; offset = after; bytes = ys; window = passed (16 + size) w; ended = ended }) bytes

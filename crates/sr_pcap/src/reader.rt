@@ -34,7 +34,12 @@ impl Model for Reader {
     ghost Value = { ReaderView };
 
     ghost view = { λ r. record {
-        format = r.format; offset = r.offset; bytes = drop (length r.window.used - r.size) r.window.used; window = r.window; ended = r.ended } };
+      format = r.format;
+      offset = r.offset;
+      bytes = drop (length r.window.used - r.size) r.window.used;
+      window = r.window;
+      ended = r.ended;
+    } };
 
     ghost invariant = { λ r. (r.size ≤ length r.window.used) × (length r.window.used ≤ 262160) × (r.window.room ≡ 524320) };
 }
@@ -115,7 +120,9 @@ impl Reader {
         ensures faults { Counts (result ≡ Err ReadFault) (S.known source.old).faults (S.known source.new).faults }
     {
         self.window.fill(source, RECORD_HEADER)?;
-        let header = self.format.record_header(self.offset, self.window.unread())?;
+        let header = self
+            .format
+            .record_header(self.offset, self.window.unread())?;
         let whole = RECORD_HEADER + header.size;
         self.window.fill(source, whole)?;
         if self.window.unread().len() < whole {

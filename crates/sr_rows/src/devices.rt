@@ -22,7 +22,12 @@ fn passed_over_read<R: Threads + Sync>(
     input: &[u8],
 ) -> Result<Option<u64>, AllocError> {
     for k in 0..=input.len() as u64 {
-        if !tells(rt, alloc, failing(input, k + 1, 0), READ_FAULT)? {
+        if !tells(
+            rt,
+            alloc,
+            failing(input, k.saturating_add(1), 0),
+            READ_FAULT,
+        )? {
             return Ok(Some(k));
         }
     }
@@ -50,7 +55,12 @@ fn each_failing_call(rt: HostRuntime) -> Result<(), Fail> {
     assert_eq!(rt; passed_over_read(&rt, rt.alloc(), &input)?, None, "read");
     assert_eq!(rt; passed_over_write(&rt, rt.alloc(), &input)?, None, "write");
     assert!(rt;
-        tells(&rt, rt.alloc(), failing(&input, input.len() as u64 + 2, 6), FIRST_TOLD)?,
+        tells(
+            &rt,
+            rt.alloc(),
+            failing(&input, (input.len() as u64).saturating_add(2), 6),
+            FIRST_TOLD
+        )?,
         "a further call"
     );
     Ok(())

@@ -320,11 +320,14 @@ unfolding printed
 prints_lawful vip servers bytes format some header =
     let skips = skips_in format vip bytes in
     let packets = packets_in format vip bytes in
-    let lawful = one_is_lawful servers packets some (packets_first format.link vip 1 (records_behind format (drop 24 bytes)).frames) in
-    (format, header, record {
-      lines = one_lines servers packets;
-      printed = ap (λ h. printed_in h vip servers (drop 24 bytes)) header ∙ text_of_lines servers skips packets;
-      lawful = lawful;
-      kept = kept (one_setup servers packets) (endings_of (reverse (one_lines servers packets))) (one_lines servers packets) lawful.0;
-      newer = newer (one_setup servers packets) (endings_of (reverse (one_lines servers packets))) (one_lines servers packets) lawful.0;
-    })
+    let lawful = one_is_lawful servers packets some (packets_first format.link vip 1 (records_behind format (drop 24 bytes)).frames) in (
+      format,
+      header,
+      record {
+        lines = one_lines servers packets;
+        printed = ap (λ h. printed_in h vip servers (drop 24 bytes)) header ∙ text_of_lines servers skips packets;
+        lawful = lawful;
+        kept = kept (one_setup servers packets) (endings_of (reverse (one_lines servers packets))) (one_lines servers packets) lawful.0;
+        newer = newer (one_setup servers packets) (endings_of (reverse (one_lines servers packets))) (one_lines servers packets) lawful.0;
+      },
+    )

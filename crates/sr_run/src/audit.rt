@@ -109,7 +109,12 @@ fn judge(alloc: Global, script: &Script, log: &Log) -> Result<(), Status>
 }
 
 // Judges the lines of a log whose records' numbers are right.
-fn judge_lines(alloc: Global, script: &Script, log: &Log, packets: Vec<Packet>) -> Result<(), Status>
+fn judge_lines(
+    alloc: Global,
+    script: &Script,
+    log: &Log,
+    packets: Vec<Packet>,
+) -> Result<(), Status>
     requires fitting { IsFitting (spelled script.now) }
     requires few { line_count log.now.skips.items log.now.lines.items ≤ most_lines }
     requires packets { packets.items ≡ packets_of log.now.lines.items }

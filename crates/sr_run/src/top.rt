@@ -35,13 +35,13 @@ pub fn run<R: Threads + Sync, S: Source, F: Shelf, K: Sink, G: Gate + Sync>(
     // What each command does.
     ensures one { (vip : ℕ × ℕ) (servers : ℕ) → command_of (map string_bytes words.now) ≡ Some (One vip servers)
         → RunsOne vip servers result (outside (S.known source.old) (F.known shelf.old) (K.known sink.old))
-            (outside (S.known source.new) (F.known shelf.new) (K.known sink.new))
+        (outside (S.known source.new) (F.known shelf.new) (K.known sink.new))
         × (shelf.new ≡ shelf.old) }
     ensures make { (number packets : ℕ) → command_of (map string_bytes words.now) ≡ Some (Make number packets)
         → RunsMake number packets result (K.known sink.old) (K.known sink.new) × (source.new ≡ source.old) × (shelf.new ≡ shelf.old) }
     ensures audit { (script : List ℕ) → command_of (map string_bytes words.now) ≡ Some (Audit script)
         → RunsAudit script result (outside (S.known source.old) (F.known shelf.old) (K.known sink.old))
-            (outside (S.known source.new) (F.known shelf.new) (K.known sink.new))
+        (outside (S.known source.new) (F.known shelf.new) (K.known sink.new))
         × ((refusal : ARefusal) → result ≡ Script refusal → source.new ≡ source.old) }
 
     // What holds of every command, source, shelf and sink.

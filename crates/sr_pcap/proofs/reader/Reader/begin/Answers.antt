@@ -53,9 +53,10 @@ returns-clause-header g c = λ xs e.
     let before = (g.S.Source.known c.args.source.now).left in
     let left = (g.S.Source.known c.fill.new.source).left in
     let start : Pending c.in_ok-window.window before xs = subst (λ (v : WindowView). Pending v before xs) (sym c.in_ok-window.ensures) (pending_new _ before xs e) in
-    let p = c.fill.ensures.reads.pending xs start in
-    (sym (header_pending w left xs c.in_ok-fill.ensures.filled p) ∙ ap header_of (sym c.unread.ensures) ∙ sym c.in_ok-format.ensures.format,
-    subst (λ (v : WindowView). Pending v left (drop 24 xs)) (sym c.pass.ensures) (pending_pass w left xs 24 long p))
+    let p = c.fill.ensures.reads.pending xs start in (
+      sym (header_pending w left xs c.in_ok-fill.ensures.filled p) ∙ ap header_of (sym c.unread.ensures) ∙ sym c.in_ok-format.ensures.format,
+      subst (λ (v : WindowView). Pending v left (drop 24 xs)) (sym c.pass.ensures) (pending_pass w left xs 24 long p),
+    )
 
 pub returns-clause-link : goal.returns-clause-link
 returns-clause-link g c = c.in_ok-format.ensures.judged.1
