@@ -1,5 +1,5 @@
 -- What a controller begins, as a list of cases: each with why it is that one. A proof that goes by these cases sees no test.
-use Rattle.std.specs.Prelude.{◌≡◌, ℕ, ◌+◌, nat_le, true, List, ◌∷◌, Contains, find, Some, None}
+use Rattle.std.specs.Prelude.{◌≡◌, ℕ, ◌+◌, nat_le, true, List, ◌∷◌, Contains, Some, None}
 use Rattle.sr_base.specs.declared.place.Place.{Place}
 use Rattle.sr_base.specs.declared.vip_word.Phase.TheVariants.{Steady, Recording, Holding, Transit}
 use Rattle.sr_shadow.specs.Book.{entry_for, first_retirable}

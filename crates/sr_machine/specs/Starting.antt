@@ -1,5 +1,5 @@
 -- What a controller without a job begins: the first act that applies, in the order of the acts.
-use Rattle.std.specs.Prelude.{ℕ, ◌+◌, ◌&&◌, ◌||◌, nat_le, is_none, find, Bool, true, false, List, [], ◌∷◌, unwrap_or, option_map, option_and_then, Option, Some, None, if◌then◌else◌}
+use Rattle.std.specs.Prelude.{ℕ, ◌+◌, nat_le, is_none, Bool, true, false, List, [], ◌∷◌, unwrap_or, option_map, option_and_then, Option, Some, None, if◌then◌else◌}
 use Rattle.std.specs.Option.{option_or}
 use Rattle.sr_base.specs.Key.{KeyView}
 use Rattle.sr_base.specs.declared.place.Place.TheVariants.{Row}
@@ -7,7 +7,7 @@ use Rattle.sr_base.specs.declared.shape.Shape.{Shape}
 use Rattle.sr_base.specs.declared.vip_word.Phase.{Phase}
 use Rattle.sr_base.specs.declared.vip_word.Phase.TheVariants.{Steady, Recording, Holding, Transit}
 use Rattle.sr_shadow.specs.Book.{entry_for, first_retirable}
-use Rattle.sr_shadow.specs.Entry.{is_pending, is_placed}
+use Rattle.sr_shadow.specs.Entry.{is_pending}
 use Rattle.sr_shadow.specs.Plan.{first_plan}
 use Rattle.sr_shadow.specs.declared.entry.Entry.{Entry}
 use Rattle.sr_shadow.specs.declared.plan.Plan.{Plan}
