@@ -1,0 +1,6 @@
+pub mod Alone
+pub mod Falling
+pub mod Known
+pub mod Tables
+pub mod Telling
+pub mod Walked

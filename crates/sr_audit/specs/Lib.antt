@@ -1,0 +1,9 @@
+pub mod Audit
+pub mod Connections
+pub mod Downs
+pub mod Index
+pub mod LastGivings
+pub mod LastUpdate
+pub mod Lately
+pub mod Switches
+pub mod Versions
