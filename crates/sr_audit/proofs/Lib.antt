@@ -1,4 +1,5 @@
 pub mod Alone
+pub mod Answering
 pub mod Falling
 pub mod Known
 pub mod Tables

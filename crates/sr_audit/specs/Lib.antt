@@ -1,6 +1,8 @@
+pub mod Answers
 pub mod Audit
 pub mod Connections
 pub mod Downs
+pub mod HeldCounts
 pub mod Index
 pub mod LastGivings
 pub mod LastUpdate
