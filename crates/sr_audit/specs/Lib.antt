@@ -7,5 +7,6 @@ pub mod Index
 pub mod LastGivings
 pub mod LastUpdate
 pub mod Lately
+pub mod Places
 pub mod Switches
 pub mod Versions

@@ -10,9 +10,10 @@
 //! | What a virtual address was last switched to | `switches` |
 //! | Whether a connection is open, and how it was opened | `connections` |
 //! | Whether a server was taken down | `downs` |
+//! | Who has a place of the tables | `places` |
 //! | After the walk: whether each packet has its final line | `final_lines`; `pairing`: `answers`, `held_counts` |
 //!
-//! `judge` asks them, and asks the plain bodies of `sr_law` what has no index yet: where places stand, why openers were held or found their
+//! `judge` asks them, and asks the plain bodies of `sr_law` what has no index yet: why openers were held or found their
 //! ring full, whether a version is free, whether a connection was quiet, and the final lines. `walk` goes over the lines.
 #![tactic(auto)]
 
@@ -27,6 +28,7 @@ mod last_givings;
 mod last_update;
 mod lately;
 mod pairing;
+mod places;
 mod switches;
 mod versions;
 mod walk;

@@ -6,7 +6,7 @@ use Rattle.std.proofs.lemmas.Option.{same_Some}
 use Rattle.sr_base.specs.declared.place.Place.{Place}
 use Rattle.sr_base.specs.declared.vip_word.Phase.{Phase}
 use Rattle.sr_base.specs.declared.vip_word.Phase.TheVariants.{Steady, Recording, Holding, Transit}
-use Rattle.sr_shadow.specs.Book.{entry_for, placed_from}
+use Rattle.sr_shadow.specs.Book.{entry_for, first_retirable, placed_from}
 use Rattle.sr_shadow.specs.Entry.{is_pending, is_placed}
 use Rattle.sr_base.specs.Key.{KeyView}
 use Rattle.sr_shadow.specs.declared.entry.Entry.{Entry}
@@ -18,7 +18,7 @@ use Rattle.sr_machine.specs.Goes.{Goes, stays_free, waits, refused, taken_down, 
 use Rattle.sr_machine.specs.Jobs.{book_next, job_next}
 use Rattle.sr_update.specs.Numbers.{first_drained, least_free}
 use Rattle.sr_update.specs.Updates.{has_come}
-use Rattle.sr_machine.specs.Starting.{Start, change_of, first_act, first_put, going_on, opener_act, opener_job, opener_of, outage_act, outage_of, outage_start, pending_act, planned_put, refusal_act, refusal_of, release_act, retire_act, retirement, sweep_act, sweep_of, update_act, update_of, update_to, beginning, with_job, may_retire}
+use Rattle.sr_machine.specs.Starting.{Start, change_of, first_act, first_put, going_on, opener_act, opener_job, opener_of, outage_act, outage_of, outage_start, pending_act, planned_put, refusal_act, refusal_of, release_act, retire_act, retirement, sweep_act, sweep_of, update_act, update_of, update_to, beginning, with_job}
 use Rattle.sr_machine.specs.Stores.{is_last_filter, is_last_member, judged_draw}
 use Rattle.sr_update.specs.Waits.{first_before_finish, first_before_hold}
 use Rattle.sr_machine.specs.Waiting.{all_passed, has_next, is_ring_done, is_under_way, waited_job}
@@ -214,7 +214,7 @@ module _ (k : Config) (c : ControllerView) where
       (within e (zero, omega arith, refl)) refl refl
       (first_put_begins rest (λ w h. within w (suc h.0, omega (arith, h.1), h.2)) p) q
 
-  retirement_begins : (o : Option Entry) → find (may_retire k.layout.shape.lives) c.book.entries ≡ o → (s : Start)
+  retirement_begins : (o : Option Entry) → first_retirable k.layout.shape.lives c.book.entries ≡ o → (s : Start)
       → option_map (with_job c) (option_and_then retirement o) ≡ Some s → Begins k c s
   retirement_begins None q s e = cc
   retirement_begins (Some w) q s e = at w.place refl e

@@ -67,6 +67,11 @@ unfoldable pub live_word : LayoutView → Place → KeyView → ℕ → ℕ
 live_word l (Slot way bucket cell) key version = packed_slot (slot.Live key.vip (digest_of way key l.shape.digest_bits) version)
 live_word l (Row row) key version = packed_full (full.Live key version)
 
+-- the entry of a key at a place is taken for another key's
+abbrev pub stands_for : LayoutView → Place → KeyView → KeyView → Bool
+stands_for l (Slot way bucket cell) key other = tells_key key.vip (digest_of way key l.shape.digest_bits) way other l.shape.digest_bits
+stands_for l (Row row) key other = same_key other key
+
 -- ---- a pool
 
 -- the head, where pools may have its size, and else one server and no pool's number

@@ -1,13 +1,13 @@
 -- What a controller without a job begins: the first act that applies, in the order of the acts.
-use Rattle.std.specs.Prelude.{ℕ, ◌+◌, ◌&&◌, ◌||◌, nat_le, is_none, find, Bool, true, false, List, [], ◌∷◌, unwrap_or, option_map, option_and_then, Option, Some, None, if◌then◌else◌}
+use Rattle.std.specs.Prelude.{ℕ, ◌+◌, nat_le, is_none, Bool, true, false, List, [], ◌∷◌, unwrap_or, option_map, option_and_then, Option, Some, None, if◌then◌else◌}
 use Rattle.std.specs.Option.{option_or}
 use Rattle.sr_base.specs.Key.{KeyView}
 use Rattle.sr_base.specs.declared.place.Place.TheVariants.{Row}
 use Rattle.sr_base.specs.declared.shape.Shape.{Shape}
 use Rattle.sr_base.specs.declared.vip_word.Phase.{Phase}
 use Rattle.sr_base.specs.declared.vip_word.Phase.TheVariants.{Steady, Recording, Holding, Transit}
-use Rattle.sr_shadow.specs.Book.{entry_for}
-use Rattle.sr_shadow.specs.Entry.{is_pending, is_placed}
+use Rattle.sr_shadow.specs.Book.{entry_for, first_retirable}
+use Rattle.sr_shadow.specs.Entry.{is_pending}
 use Rattle.sr_shadow.specs.Plan.{first_plan}
 use Rattle.sr_shadow.specs.declared.entry.Entry.{Entry}
 use Rattle.sr_shadow.specs.declared.plan.Plan.{Plan}
@@ -140,20 +140,11 @@ pending_act k c = option_map (λ p. with_job c (Draw (draw.Reserved p))) (first_
 
 -- ---- a connection is over
 
--- so many quiet sweeps are told
-abbrev pub is_quiet : ℕ → Option ℕ → Bool
-is_quiet sweeps None = false
-is_quiet sweeps (Some n) = nat_le sweeps n
-
--- a placed key that was quiet for so many sweeps, or for one once an ending packet went by
-abbrev pub may_retire : ℕ → Entry → Bool
-may_retire lives e = is_placed e && (is_quiet lives e.quiet || (e.closed && is_quiet 1 e.quiet))
-
 abbrev pub retirement : Entry → Option Job
 retirement e = option_map (λ place. Draw (draw.Retired e.key place e.version)) e.place
 
 abbrev pub retire_act : Config → ControllerView → Option Start
-retire_act k c = option_map (with_job c) (option_and_then retirement (find (may_retire k.layout.shape.lives) c.book.entries))
+retire_act k c = option_map (with_job c) (option_and_then retirement (first_retirable k.layout.shape.lives c.book.entries))
 
 -- ---- a sweep
 

@@ -60,7 +60,7 @@ pub use event::Event;
 pub use flight::Flight;
 pub use held_opener::HeldOpener;
 pub use job::Job;
-pub use laws::{acts_have_cases, names_agree, packets_end, runs_go_on, turns_end};
+pub use laws::{acts_have_cases, names_agree, packets_end, runs_go_on, turns_end, words_are_read};
 pub use leg::{Last, Leg, Load};
 pub use name::Name;
 pub use op::Op;
