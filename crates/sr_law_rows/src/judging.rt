@@ -1,4 +1,4 @@
-//! Judges the rows, each of their edits, and each change of one line of them, by both bodies of the auditor.
+//! Judges the rows, and each of their edits, by both bodies of the auditor.
 use crate::fields::{number, word, words};
 use crate::lines::{is_edit, last_verdict, line};
 use crate::row::Row;
@@ -122,57 +122,6 @@ fn misjudged<'a>(alloc: Global, text: &'a str) -> Result<&'a str, Fail> {
         None => misjudged_edit(alloc, &row, &setup, text),
         Some(_) => Ok("its own list"),
     }
-}
-
-// The lines with the one at this position, from 1, left out, doubled, or moved behind the next one.
-fn changed(alloc: Global, lines: &[Line], number: u64, how: u8) -> Result<Vec<Line>, Fail> {
-    let mut after = Vec::new(alloc);
-    let mut held = Vec::new(alloc);
-    let mut position = 0u64;
-    for line in lines {
-        position = position.saturating_add(1);
-        if position == number && how == 2 {
-            held.push(*line)?;
-        } else if position != number {
-            after.push(*line)?;
-            after.extend_from_slice(held.as_slice())?;
-            held.clear();
-        } else if how == 1 {
-            after.push(*line)?;
-            after.push(*line)?;
-        }
-    }
-    after.extend_from_slice(held.as_slice())?;
-    Ok(after)
-}
-
-// Whether both bodies answer the same of each list that a change of one line makes of this one.
-fn are_judged_alike(alloc: Global, setup: &Setup, lines: &[Line]) -> Result<bool, Fail> {
-    let mut number = 0u64;
-    for _ in lines {
-        number = number.saturating_add(1);
-        for how in 0..3u8 {
-            let after = changed(alloc, lines, number, how)?;
-            if judged(alloc, setup, after.as_slice()) == Some((0, Clause::Text)) {
-                return Ok(false);
-            }
-        }
-    }
-    Ok(true)
-}
-
-// Each row's list with one line left out, doubled or moved, some five hundred lists.
-#[test]
-fn changed_lists_are_judged_alike(rt: HostRuntime) -> Result<(), Fail> {
-    for text in ROWS {
-        let row = Row::read(rt.alloc(), text)?;
-        let setup = row.setup(rt.alloc())?;
-        assert!(rt;
-            are_judged_alike(rt.alloc(), &setup, row.lines.as_slice())?,
-            "{text}"
-        );
-    }
-    Ok(())
 }
 
 #[test]
