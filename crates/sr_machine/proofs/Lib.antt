@@ -5,3 +5,4 @@ mod Rows
 mod Scenes
 mod TurnSteps
 pub mod Words
+pub mod Written

@@ -1,6 +1,6 @@
-//! The load balancer as one machine: pipes and a controller that share words, and every atomic step that each of them makes. The definitions in
-//! `specs/` say what a step is and what its actor knows after it; `specs/Core.antt` puts them together to states, events and runs. The types here are
-//! what actors know. No value of the views is made: contracts speak of them.
+//! The load balancer as one machine: pipes and a controller that share words, and every atomic step that each of them makes. The
+//! definitions in `specs/` say what a step is and what its actor knows after it; `specs/Core.antt` puts them together to states,
+//! events and runs. The types here are what actors know. No value of the views is made: contracts speak of them.
 //!
 //! | part | source files | `specs/` |
 //! |---|---|---|
@@ -17,8 +17,8 @@
 //! | One actor's access to the words | `board`, `performing` | `Boards` |
 //! | What a fact owes so that every event keeps it | | `Keeping` |
 //!
-//! The mechanism is that of SilkRoad (SIGCOMM 2017): a table of digests with versions, insertion behind the packets, and a filter that keeps
-//! connections right while an update switches a pool.
+//! The mechanism is that of SilkRoad (SIGCOMM 2017): a table of digests with versions, insertion behind the packets, and a filter
+//! that keeps connections right while an update switches a pool.
 #![tactic(auto)]
 
 mod act;
@@ -60,7 +60,7 @@ pub use event::Event;
 pub use flight::Flight;
 pub use held_opener::HeldOpener;
 pub use job::Job;
-pub use laws::{acts_have_cases, names_agree, packets_end, runs_go_on, turns_end};
+pub use laws::{acts_have_cases, names_agree, packets_end, runs_go_on, turns_end, words_are_read};
 pub use leg::{Last, Leg, Load};
 pub use name::Name;
 pub use op::Op;
