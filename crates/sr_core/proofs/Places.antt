@@ -5,7 +5,8 @@ use Rattle.sr_base.specs.declared.place.Place.{Place}
 use Rattle.sr_base.specs.declared.shape.Shape.{Shape}
 use Rattle.sr_core.specs.Tracks.{HaveBits, HavePlaces}
 
-pub has_place : (s : Shape) (places : List Place) (at : ℕ) (d : Place) → at < length places → HavePlaces s places → HasPlace s (slice_index_or places at d)
+pub has_place : (s : Shape) (places : List Place) (at : ℕ) (d : Place) → at < length places → HavePlaces s places
+    → HasPlace s (slice_index_or places at d)
 has_place s [] at d h p = absurd (omega (arith, h))
 has_place s (place ∷ rest) zero d h p = p.0
 has_place s (place ∷ rest) (suc at) d h p = has_place s rest at d (omega (arith, h)) p.1

@@ -25,17 +25,24 @@ most_least (stage.Fly f (leg.Judged v last.Out)) n = omega arith
 most_least (stage.Leave f) n = omega arith
 
 module _ (l : LayoutView) (x pushed n : ℕ) where
-  pushes_after : (s : Stage) → pushed ≤ most_pushed s n → pushed_after s pushed ≤ most_pushed (stage_after l s x) (lines_count s n)
+  pushes_after : (s : Stage) → pushed ≤ most_pushed s n
+      → pushed_after s pushed ≤ most_pushed (stage_after l s x) (lines_count s n)
   pushes_after stage.Idle h = h
   pushes_after (stage.Enter packet) h = h
   pushes_after (stage.Note packet entered) h = h
   pushes_after (stage.Vip packet entered) h = omega (arith, h, most_least (stage_after l (stage.Vip packet entered) x) n)
-  pushes_after (stage.Fly f (leg.Look place rest)) h = omega (arith, h, most_least (stage_after l (stage.Fly f (leg.Look place rest)) x) n)
-  pushes_after (stage.Fly f (leg.Hit place version)) h = omega (arith, h, most_least (stage_after l (stage.Fly f (leg.Hit place version)) x) n)
-  pushes_after (stage.Fly f (leg.Filter bit rest)) h = omega (arith, h, most_least (stage_after l (stage.Fly f (leg.Filter bit rest)) x) n)
-  pushes_after (stage.Fly f (leg.Chosen version next)) h = omega (arith, h, most_least (stage_after l (stage.Fly f (leg.Chosen version next)) x) n)
-  pushes_after (stage.Fly f (leg.Judged v last.Ring)) h = omega (arith, h, most_least (stage_after l (stage.Fly f (leg.Judged v last.Ring)) x) n)
-  pushes_after (stage.Fly f (leg.Judged v (last.Mark bit rest))) h = omega (arith, h, most_least (stage_after l (stage.Fly f (leg.Judged v (last.Mark bit rest))) x) n)
+  pushes_after (stage.Fly f (leg.Look place rest)) h =
+      omega (arith, h, most_least (stage_after l (stage.Fly f (leg.Look place rest)) x) n)
+  pushes_after (stage.Fly f (leg.Hit place version)) h =
+      omega (arith, h, most_least (stage_after l (stage.Fly f (leg.Hit place version)) x) n)
+  pushes_after (stage.Fly f (leg.Filter bit rest)) h =
+      omega (arith, h, most_least (stage_after l (stage.Fly f (leg.Filter bit rest)) x) n)
+  pushes_after (stage.Fly f (leg.Chosen version next)) h =
+      omega (arith, h, most_least (stage_after l (stage.Fly f (leg.Chosen version next)) x) n)
+  pushes_after (stage.Fly f (leg.Judged v last.Ring)) h =
+      omega (arith, h, most_least (stage_after l (stage.Fly f (leg.Judged v last.Ring)) x) n)
+  pushes_after (stage.Fly f (leg.Judged v (last.Mark bit rest))) h =
+      omega (arith, h, most_least (stage_after l (stage.Fly f (leg.Judged v (last.Mark bit rest))) x) n)
   pushes_after (stage.Fly f (leg.Judged v last.Push)) h = omega (arith, h)
   pushes_after (stage.Fly f (leg.Judged v last.Out)) h = h
   pushes_after (stage.Leave f) h = h
@@ -65,7 +72,8 @@ pub room_fits : (l : LayoutView) (x room n : ℕ) (s next : Stage) → next ≡ 
 room_fits l x room n s next e h = rw e (room_left l x room n s h)
 
 -- a report more is counted in 64 bits
-pub pushed_fits : (s : Stage) (pushed room n : ℕ) → pushed < 2 ^ 64 → pushed ≤ most_pushed s n → HasRoom s room n → pushed_after s pushed < 2 ^ 64
+pub pushed_fits : (s : Stage) (pushed room n : ℕ) → pushed < 2 ^ 64 → pushed ≤ most_pushed s n → HasRoom s room n
+    → pushed_after s pushed < 2 ^ 64
 pushed_fits stage.Idle pushed room n b m h = b
 pushed_fits (stage.Enter packet) pushed room n b m h = b
 pushed_fits (stage.Note packet entered) pushed room n b m h = b

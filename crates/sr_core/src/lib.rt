@@ -1,5 +1,5 @@
-//! The machine of `sr_machine` as code. So far a pipe's part: its next step, and what it knows after it, once for all who have words to make the
-//! step on.
+//! The machine of `sr_machine` as code. So far a pipe's part: its next step, and what it knows after it, once for all who have
+//! words to make the step on.
 //!
 //! | part | source files | `specs/` |
 //! |---|---|---|

@@ -14,7 +14,8 @@ use sr_machine::{Flight, Op};
 use std::alloc::{AllocError, Global};
 use std::marker::Model;
 
-/// A pipe: its next step, and what it knows after it. It touches no word itself: whoever has the words makes the step, and tells what it answered.
+/// A pipe: its next step, and what it knows after it. It touches no word itself: whoever has the words makes the step, and tells
+/// what it answered.
 #[derive(Drop)]
 pub struct PipeMachine {
     layout: Layout,
@@ -37,7 +38,8 @@ impl Model for PipeMachine {
       room = vec_capacity p.lines - vec_len p.lines;
     } };
 
-    ghost invariant = { λ p. (p.number < p.layout.shape.pipes) × FitsTrack p.layout p.track × (p.pushed ≤ most_pushed (stage_of p.track) (vec_len p.lines))
+    ghost invariant = { λ p. (p.number < p.layout.shape.pipes) × FitsTrack p.layout p.track
+        × (p.pushed ≤ most_pushed (stage_of p.track) (vec_len p.lines))
         × HasRoom (stage_of p.track) (vec_capacity p.lines - vec_len p.lines) (vec_len p.lines) };
 }
 

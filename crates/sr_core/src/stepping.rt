@@ -209,7 +209,9 @@ fn look_after(layout: &Layout, flight: &Flight, places: [Place; 12], at: usize, 
     requires at { at < 12 }
     requires places { HavePlaces layout.now.shape places }
     requires flight { FitsFlight layout.now flight.now }
-    ensures value { leg_of result ≡ looked layout.now flight.now (place_at places at) (drop (at + 1) places) (says layout.now (place_at places at) flight.now.packet.key x) }
+    ensures value { leg_of result
+        ≡ looked layout.now flight.now (place_at places at) (drop (at + 1) places)
+        (says layout.now (place_at places at) flight.now.packet.key x) }
     ensures fits { FitsCourse layout.now result }
 {
     let said = says(layout, places[at], flight.packet.key, x);

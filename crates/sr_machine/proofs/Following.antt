@@ -39,7 +39,8 @@ use Rattle.sr_machine.specs.declared.pool_update.PoolUpdate.{PoolUpdate}
 -- ---- what is found
 
 module _ {X : Type 0} (p : X → Bool) where
-  found_by : (b : Bool) (x : X) (rest : Option X) (e : X) → p x ≡ b → (rest ≡ Some e → p e ≡ true) → cond b (Some x) rest ≡ Some e → p e ≡ true
+  found_by : (b : Bool) (x : X) (rest : Option X) (e : X) → p x ≡ b → (rest ≡ Some e → p e ≡ true)
+      → cond b (Some x) rest ≡ Some e → p e ≡ true
   found_by true x rest e q later f = ap p (sym (same_Some x e f)) ∙ q
   found_by false x rest e q later f = later f
 
@@ -54,12 +55,14 @@ none_placed e n q = true≢false (sym q ∙ ap is_some n)
 -- ---- which job follows
 
 module _ (k : Config) (c : ControllerView) (x : ℕ) where
-  sweep_from : (number : ℕ) (ms : ℕ) (next : Option Entry) → placed_from 0 c.book.entries ≡ next → Goes k c x (Draw (draw.From ms)) (sweep_job x ms next)
+  sweep_from : (number : ℕ) (ms : ℕ) (next : Option Entry) → placed_from 0 c.book.entries ≡ next
+      → Goes k c x (Draw (draw.From ms)) (sweep_job x ms next)
   sweep_from number ms None q = sweep_empty ms q
   sweep_from number ms (Some e) q = at e.place refl
     where
       at : (place : Option Place) → e.place ≡ place → Goes k c x (Draw (draw.From ms)) (hit_job x ms e place)
-      at None n = absurd (none_placed e n (and_parts (nat_le 0 e.taken) (is_placed e) (found (λ e. nat_le 0 e.taken && is_placed e) c.book.entries e q)).1)
+      at None n =
+          absurd (none_placed e n (and_parts (nat_le 0 e.taken) (is_placed e) (found (λ e. nat_le 0 e.taken && is_placed e) c.book.entries e q)).1)
       at (Some place) n = sweep_begins ms e place (record { found = q; stands = n })
 
   sweep_on : (from ms : ℕ) (key : KeyView) (place : Place) (taken : ℕ) (next : Option Entry)
@@ -69,7 +72,8 @@ module _ (k : Config) (c : ControllerView) (x : ℕ) where
   sweep_on from ms key place taken (Some e) q = at e.place refl
     where
       at : (stands : Option Place) → e.place ≡ stands → Goes k c x (Hit from ms key place taken) (hit_job from ms e stands)
-      at None n = absurd (none_placed e n (and_parts (nat_le (taken + 1) e.taken) (is_placed e) (found (λ e. nat_le (taken + 1) e.taken && is_placed e) (book_next k c (Hit from ms key place taken) x).entries e q)).1)
+      at None n =
+          absurd (none_placed e n (and_parts (nat_le (taken + 1) e.taken) (is_placed e) (found (λ e. nat_le (taken + 1) e.taken && is_placed e) (book_next k c (Hit from ms key place taken) x).entries e q)).1)
       at (Some stands) n = hit_next from ms key place taken e stands (record { found = q; stands = n })
 
   member_goes : (u : PoolUpdate) (index : ℕ) (b : Bool) → is_last_member k u index ≡ b
@@ -130,13 +134,15 @@ module _ (k : Config) (c : ControllerView) (x : ℕ) where
   goes (Pass g pipe w) = pass_goes g pipe w (is_under_way g x) (has_next k.layout pipe) refl refl
   goes (Drain pipe count w) = drain_goes pipe count w (is_ring_done k.layout count x) (has_next k.layout pipe) refl refl
   goes (Look pipe) = look_goes pipe (x == 0) (has_next k.layout pipe) refl refl
-  goes (Hit from ms key place taken) = sweep_on from ms key place taken (placed_from (taken + 1) (book_next k c (Hit from ms key place taken) x).entries) refl
+  goes (Hit from ms key place taken) =
+      sweep_on from ms key place taken (placed_from (taken + 1) (book_next k c (Hit from ms key place taken) x).entries) refl
 
 -- ---- what is begun
 
 module _ {X : Type 0} (P : X → Type 0) where
   -- the first of two, or else what follows
-  or_cases : (a b : Option X) (d : X) → ((s : X) → a ≡ Some s → P s) → (a ≡ None → P (unwrap_or b d)) → P (unwrap_or (option_or a b) d)
+  or_cases : (a b : Option X) (d : X) → ((s : X) → a ≡ Some s → P s) → (a ≡ None → P (unwrap_or b d))
+      → P (unwrap_or (option_or a b) d)
   or_cases (Some s) b d one more = one s refl
   or_cases None b d one more = more refl
 
@@ -145,7 +151,8 @@ module _ {X : Type 0} (P : X → Type 0) where
   last_cases None d one more = more refl
 
 module _ (k : Config) (c : ControllerView) where
-  refusal_begins : (b : Bool) (gives : List GiveChange) → c.refusing ≡ b → c.gives ≡ gives → (s : Start) → refusal_of c b gives ≡ Some s → Begins k c s
+  refusal_begins : (b : Bool) (gives : List GiveChange) → c.refusing ≡ b → c.gives ≡ gives → (s : Start)
+      → refusal_of c b gives ≡ Some s → Begins k c s
   refusal_begins true (g ∷ rest) q r s e = subst (Begins k c) (same_Some _ s e) (refuses g rest q r)
   refusal_begins true [] q r s e = cc
   refusal_begins false gives q r s e = cc
@@ -175,7 +182,8 @@ module _ (k : Config) (c : ControllerView) where
       at None f e = subst (Begins k c) (same_Some _ s e) (finishes u q r f)
       at (Some w) f e = cc
 
-  change_begins : (gives : List GiveChange) → c.update ≡ None → c.gives ≡ gives → (s : Start) → change_of c gives ≡ Some s → Begins k c s
+  change_begins : (gives : List GiveChange) → c.update ≡ None → c.gives ≡ gives → (s : Start) → change_of c gives ≡ Some s
+      → Begins k c s
   change_begins [] q r s e = cc
   change_begins (g ∷ rest) q r s e = at (has_come g.at_ms c.clock) (least_free g.vip c.numbers) refl refl e
     where
@@ -191,16 +199,20 @@ module _ (k : Config) (c : ControllerView) where
 
   opener_begins : (held : List HeldOpener) → c.held ≡ held → (s : Start) → opener_of k c held ≡ Some s → Begins k c s
   opener_begins [] q s e = cc
-  opener_begins (h ∷ rest) q s e = at (entry_for h.key c.book.entries) (planned_put k.layout.shape c.book.entries h.key (aim.Held h)) refl refl e
+  opener_begins (h ∷ rest) q s e =
+      at (entry_for h.key c.book.entries) (planned_put k.layout.shape c.book.entries h.key (aim.Held h)) refl refl e
     where
-      at : (o : Option Entry) (p : Option Put) → entry_for h.key c.book.entries ≡ o → planned_put k.layout.shape c.book.entries h.key (aim.Held h) ≡ p
+      at : (o : Option Entry) (p : Option Put) → entry_for h.key c.book.entries ≡ o
+          → planned_put k.layout.shape c.book.entries h.key (aim.Held h) ≡ p
           → Some (with_job c (opener_job h o p)) ≡ Some s → Begins k c s
       at (Some w) p f g e = subst (Begins k c) (same_Some _ s e) (answers h rest w q f)
       at None (Some p) f g e = subst (Begins k c) (same_Some _ s e) (places_held h rest p q f g)
       at None None f g e = subst (Begins k c) (same_Some _ s e) (has_no_place h rest q f g)
 
-  put_begins : (e : Entry) (rest : Option Put) (p : Put) (b : Bool) (o : Option Put) → Contains c.book.entries e → is_pending e ≡ b
-      → planned_put k.layout.shape c.book.entries e.key aim.Pending ≡ o → (rest ≡ Some p → Begins k c (with_job c (Draw (draw.Reserved p))))
+  put_begins : (e : Entry) (rest : Option Put) (p : Put) (b : Bool) (o : Option Put) → Contains c.book.entries e
+      → is_pending e ≡ b
+      → planned_put k.layout.shape c.book.entries e.key aim.Pending ≡ o
+      → (rest ≡ Some p → Begins k c (with_job c (Draw (draw.Reserved p))))
       → option_or (if b then o else None) rest ≡ Some p → Begins k c (with_job c (Draw (draw.Reserved p)))
   put_begins e rest p true (Some r) within a f more g = places e p within a (f ∙ g)
   put_begins e rest p true None within a f more g = more g
@@ -219,7 +231,8 @@ module _ (k : Config) (c : ControllerView) where
   retirement_begins None q s e = cc
   retirement_begins (Some w) q s e = at w.place refl e
     where
-      at : (o : Option Place) → w.place ≡ o → option_map (with_job c) (option_map (λ place. Draw (draw.Retired w.key place w.version)) o) ≡ Some s → Begins k c s
+      at : (o : Option Place) → w.place ≡ o
+          → option_map (with_job c) (option_map (λ place. Draw (draw.Retired w.key place w.version)) o) ≡ Some s → Begins k c s
       at None f g = cc
       at (Some place) f g = subst (Begins k c) (same_Some _ s g) (retires w place q f)
 
@@ -227,7 +240,8 @@ module _ (k : Config) (c : ControllerView) where
   sweep_begins_at None q s e = cc
   sweep_begins_at (Some ms) q s e = at (nat_le (c.swept_ms + k.layout.shape.idle_ms) ms) refl e
     where
-      at : (b : Bool) → nat_le (c.swept_ms + k.layout.shape.idle_ms) ms ≡ b → (if b then Some (with_job c (Draw (draw.From ms))) else None) ≡ Some s → Begins k c s
+      at : (b : Bool) → nat_le (c.swept_ms + k.layout.shape.idle_ms) ms ≡ b
+          → (if b then Some (with_job c (Draw (draw.From ms))) else None) ≡ Some s → Begins k c s
       at true f g = subst (Begins k c) (same_Some _ s g) (sweeps ms q f)
       at false f g = cc
 
@@ -254,4 +268,14 @@ module _ (k : Config) (c : ControllerView) where
       or_cases P (retire_act k c) _ _ (λ s e. retirement_begins _ refl s e) (λ h.
       or_cases P (sweep_act k c) _ _ (λ s e. sweep_begins_at c.clock refl s e) (λ i.
       last_cases P (release_act c) _ (λ s e. release_begins _ refl s e) (λ j.
-      looks (record { refusal = a; outage = b; update = d; opener = f; pending = g; retirement = h; sweep = i; release = j })))))))))
+      looks (record {
+        refusal =
+            a;
+        outage = b;
+        update = d;
+        opener = f;
+        pending = g;
+        retirement = h;
+        sweep = i;
+        release = j;
+      })))))))))

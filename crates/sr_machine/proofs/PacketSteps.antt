@@ -46,7 +46,8 @@ module _ (f : Flight) where
   held_left : (why : HeldBy) (version : ℕ) → leg_left f (held_or f why version) ≤ 7
   held_left why version = at (is_opener f.packet.kind) refl
     where
-      at : (b : Bool) → is_opener f.packet.kind ≡ b → leg_left f (if b then Judged (verdict.Held why) last.Ring else Chosen version load.Head) ≤ 7
+      at : (b : Bool) → is_opener f.packet.kind ≡ b
+          → leg_left f (if b then Judged (verdict.Held why) last.Ring else Chosen version load.Head) ≤ 7
       at true e = omega (arith, marks_most)
       at false e = omega (arith, marks_without e)
 
@@ -64,7 +65,8 @@ module _ (f : Flight) where
   looking_left l [] = omega (arith, missed_left l f.vip.phase refl)
   looking_left l (place ∷ rest) = omega arith
 
-  looked_left : (l : LayoutView) (place : Place) (rest : List Place) (s : Said) → leg_left f (looked l f place rest s) < 11 + length rest
+  looked_left : (l : LayoutView) (place : Place) (rest : List Place) (s : Said)
+      → leg_left f (looked l f place rest s) < 11 + length rest
   looked_left l place rest said.Nothing = omega (arith, looking_left l rest)
   looked_left l place rest said.Reserved = at (is_opener f.packet.kind)
     where
@@ -83,7 +85,8 @@ module _ (f : Flight) where
   last_by_left Carry down = omega arith
   last_by_left Ending down = omega arith
 
-  loaded_left : (l : LayoutView) (version : ℕ) (next : Load) (x : ℕ) → leg_left f (loaded l f version next x) < leg_left f (Chosen version next)
+  loaded_left : (l : LayoutView) (version : ℕ) (next : Load) (x : ℕ)
+      → leg_left f (loaded l f version next x) < leg_left f (Chosen version next)
   loaded_left l version load.Head x = omega arith
   loaded_left l version (load.Member head) x = omega arith
   loaded_left l version (load.Down pool server) x = last_by_left f.packet.kind (read_flag x)
@@ -142,7 +145,8 @@ none_left (Fly f (Judged v last.Push)) h = absurd (omega (arith, h))
 none_left (Fly f (Judged v last.Out)) h = absurd (omega (arith, h))
 none_left (Leave f) h = absurd (omega (arith, h))
 
-all_lower : (l : LayoutView) (answers : List ℕ) (stage : Stage) → stage_left stage ≤ length answers → stage_after_all l answers stage ≡ Idle
+all_lower : (l : LayoutView) (answers : List ℕ) (stage : Stage) → stage_left stage ≤ length answers
+    → stage_after_all l answers stage ≡ Idle
 all_lower l [] stage h = none_left stage h
 all_lower l (x ∷ xs) stage h = all_lower l xs (stage_after l stage x) (omega (arith, h, stage_lowers l stage x))
 

@@ -18,7 +18,8 @@ use Rattle.sr_machine.specs.declared.turn.Turn.TheVariants as turn
 
 -- an opener that comes again before and after its connection is placed
 repeated_opener : lines_after (scene small_shape [])
-    (Handles 0 (packet_of 1 (client 9) Opener) ∷ Handles 0 (packet_of 2 (client 9) Opener) ∷ Controls 100 ∷ Handles 0 (packet_of 3 (client 9) Opener) ∷ Controls 100 ∷ [])
+    (Handles 0 (packet_of 1 (client 9) Opener) ∷ Handles 0 (packet_of 2 (client 9) Opener) ∷ Controls 100
+    ∷ Handles 0 (packet_of 3 (client 9) Opener) ∷ Controls 100 ∷ [])
     ≡ Some (line.Given 1 0 0 1
     ∷ line.Packet 1 2 3 0 (client 9) Opener (verdict.To 0 0 1)
     ∷ line.Packet 2 4 5 0 (client 9) Opener (verdict.To 0 0 1)
@@ -31,7 +32,9 @@ repeated_opener = refl
 
 -- openers that clash come to the table of full keys, until it is full
 clash_to_full_key : lines_after (scene small_shape [])
-    (Handles 0 (packet_of 1 (client 9) Opener) ∷ Controls 40 ∷ Handles 0 (packet_of 2 (client 10) Opener) ∷ Controls 40 ∷ Handles 0 (packet_of 3 (client 11) Opener) ∷ Controls 40 ∷ Handles 0 (packet_of 4 (client 12) Opener) ∷ Controls 40 ∷ Handles 0 (packet_of 5 (client 13) Opener) ∷ Controls 40 ∷ Handles 0 (packet_of 6 (client 14) Opener) ∷ Controls 40 ∷ [])
+    (Handles 0 (packet_of 1 (client 9) Opener) ∷ Controls 40 ∷ Handles 0 (packet_of 2 (client 10) Opener) ∷ Controls 40
+    ∷ Handles 0 (packet_of 3 (client 11) Opener) ∷ Controls 40 ∷ Handles 0 (packet_of 4 (client 12) Opener) ∷ Controls 40
+    ∷ Handles 0 (packet_of 5 (client 13) Opener) ∷ Controls 40 ∷ Handles 0 (packet_of 6 (client 14) Opener) ∷ Controls 40 ∷ [])
     ≡ Some (line.Given 1 0 0 1
     ∷ line.Packet 1 2 3 0 (client 9) Opener (verdict.To 0 0 1)
     ∷ line.Reserved 4 (client 9) (Slot 1 0 0)
@@ -88,7 +91,8 @@ update_goes_on = refl
 
 -- an update: the connection that began before it keeps its pool, the one after it has the new one
 an_update : lines_after (scene small_shape (give_at 0 1 ∷ []))
-    (Tells 0 ∷ Turns 5 ∷ Handles 0 (packet_of 1 (client 9) Opener) ∷ Turns 3 ∷ Handles 0 (packet_of 2 (client 9) Carry) ∷ Handles 0 (packet_of 3 (client 10) Opener) ∷ Settles ∷ [])
+    (Tells 0 ∷ Turns 5 ∷ Handles 0 (packet_of 1 (client 9) Opener) ∷ Turns 3 ∷ Handles 0 (packet_of 2 (client 9) Carry)
+    ∷ Handles 0 (packet_of 3 (client 10) Opener) ∷ Settles ∷ [])
     ≡ Some (line.Given 1 0 0 1
     ∷ line.Given 2 0 1 2
     ∷ line.Recorded 3 0
@@ -115,7 +119,8 @@ held_goes_on = refl
 
 -- it is answered with the new pool
 held_in_hold : lines_after (scene small_shape (give_at 0 1 ∷ []))
-    (Tells 0 ∷ Turns 5 ∷ Handles 0 (packet_of 1 (client 9) Opener) ∷ Turns 1 ∷ Handles 0 (packet_of 2 (client 10) Opener) ∷ Settles ∷ [])
+    (Tells 0 ∷ Turns 5 ∷ Handles 0 (packet_of 1 (client 9) Opener) ∷ Turns 1 ∷ Handles 0 (packet_of 2 (client 10) Opener)
+    ∷ Settles ∷ [])
     ≡ Some (line.Given 1 0 0 1
     ∷ line.Given 2 0 1 2
     ∷ line.Recorded 3 0
@@ -181,7 +186,8 @@ mid_read_goes_on = refl
 
 -- and it keeps its connection's server
 mid_read : lines_after (scene small_shape [])
-    (Handles 0 (packet_of 1 (client 9) Opener) ∷ Turns 4 ∷ Comes 0 (packet_of 2 (client 9) Carry) ∷ Pipes 0 8 ∷ Turns 2 ∷ Ends 0 ∷ [])
+    (Handles 0 (packet_of 1 (client 9) Opener) ∷ Turns 4 ∷ Comes 0 (packet_of 2 (client 9) Carry) ∷ Pipes 0 8 ∷ Turns 2
+    ∷ Ends 0 ∷ [])
     ≡ Some (line.Given 1 0 0 1
     ∷ line.Packet 1 2 3 0 (client 9) Opener (verdict.To 0 0 1)
     ∷ line.Reserved 4 (client 9) (Slot 1 0 0)
@@ -193,7 +199,9 @@ mid_read = refl
 -- an update ends, and the next one finds no version number
 versions_full : answers_after (scene (record small_shape { versions = 2 }) (give_at 0 1 ∷ give_at 0 0 ∷ []))
     (Handles 0 (packet_of 1 (client 9) Opener) ∷ Settles ∷ Tells 0 ∷ []) 14
-    ≡ Some (turn.Did act.Wrote ∷ turn.Did act.Wrote ∷ turn.Did act.Phase ∷ turn.Did act.Passed ∷ turn.Did act.Drained ∷ turn.Did act.Phase ∷ turn.Did act.Passed ∷ turn.Did act.Phase ∷ turn.Did act.Passed ∷ turn.Did act.Drained ∷ turn.Did act.Phase ∷ turn.Did act.Passed ∷ turn.Did act.Wrote ∷ turn.VersionsFull 0 ∷ [])
+    ≡ Some (turn.Did act.Wrote ∷ turn.Did act.Wrote ∷ turn.Did act.Phase ∷ turn.Did act.Passed ∷ turn.Did act.Drained
+    ∷ turn.Did act.Phase ∷ turn.Did act.Passed ∷ turn.Did act.Phase ∷ turn.Did act.Passed ∷ turn.Did act.Drained
+    ∷ turn.Did act.Phase ∷ turn.Did act.Passed ∷ turn.Did act.Wrote ∷ turn.VersionsFull 0 ∷ [])
 unfolding hash_of first_plan is_withdrawn opening_controller opening_pipes opening_words read_vip says reserved_word live_word read_head read_server read_flag has_bit read_report first_act taking
 versions_full = refl
 
@@ -264,7 +272,9 @@ version_given_again = refl
 
 -- a connection ends, is opened anew, and its server is taken down
 closed_and_down : lines_after (scene (record small_shape { lives = 3 }) (down_at 5 0 ∷ []))
-    (Handles 0 (packet_of 1 (client 9) Opener) ∷ Handles 0 (packet_of 2 (client 9) Ending) ∷ Settles ∷ Tells 1 ∷ Settles ∷ Tells 2 ∷ Settles ∷ Handles 0 (packet_of 3 (client 9) Opener) ∷ Tells 5 ∷ Settles ∷ Handles 0 (packet_of 4 (client 9) Carry) ∷ [])
+    (Handles 0 (packet_of 1 (client 9) Opener) ∷ Handles 0 (packet_of 2 (client 9) Ending) ∷ Settles ∷ Tells 1 ∷ Settles
+    ∷ Tells 2 ∷ Settles ∷ Handles 0 (packet_of 3 (client 9) Opener) ∷ Tells 5 ∷ Settles
+    ∷ Handles 0 (packet_of 4 (client 9) Carry) ∷ [])
     ≡ Some (line.Given 1 0 0 1
     ∷ line.Packet 1 2 3 0 (client 9) Opener (verdict.To 0 0 1)
     ∷ line.Packet 2 4 5 0 (client 9) Ending (verdict.To 0 0 1)
@@ -285,20 +295,26 @@ closed_and_down = refl
 
 -- an update waits for a key that has no plan
 no_room_waits : ending_after (scene small_shape (give_at 1 1 ∷ []))
-    (Handles 0 (packet_of 1 (client 9) Opener) ∷ Handles 0 (packet_of 2 (client 10) Opener) ∷ Handles 0 (packet_of 3 (client 11) Opener) ∷ Handles 0 (packet_of 4 (client 12) Opener) ∷ Handles 0 (packet_of 5 (client 13) Opener) ∷ Handles 0 (packet_of 6 (client 14) Opener) ∷ Tells 1 ∷ []) ≡ Some (settled.Waiting (client 13))
+    (Handles 0 (packet_of 1 (client 9) Opener) ∷ Handles 0 (packet_of 2 (client 10) Opener)
+    ∷ Handles 0 (packet_of 3 (client 11) Opener) ∷ Handles 0 (packet_of 4 (client 12) Opener)
+    ∷ Handles 0 (packet_of 5 (client 13) Opener) ∷ Handles 0 (packet_of 6 (client 14) Opener) ∷ Tells 1
+    ∷ []) ≡ Some (settled.Waiting (client 13))
 unfolding hash_of first_plan is_withdrawn opening_controller opening_pipes opening_words read_vip says reserved_word live_word read_head read_server read_flag has_bit read_report first_act taking
 no_room_waits = refl
 
 -- and the next turn says so
 no_room : answers_after (scene small_shape (give_at 1 1 ∷ []))
-    (Handles 0 (packet_of 1 (client 9) Opener) ∷ Handles 0 (packet_of 2 (client 10) Opener) ∷ Handles 0 (packet_of 3 (client 11) Opener) ∷ Handles 0 (packet_of 4 (client 12) Opener) ∷ Handles 0 (packet_of 5 (client 13) Opener) ∷ Handles 0 (packet_of 6 (client 14) Opener) ∷ Tells 1 ∷ Settles ∷ []) 1
+    (Handles 0 (packet_of 1 (client 9) Opener) ∷ Handles 0 (packet_of 2 (client 10) Opener)
+    ∷ Handles 0 (packet_of 3 (client 11) Opener) ∷ Handles 0 (packet_of 4 (client 12) Opener)
+    ∷ Handles 0 (packet_of 5 (client 13) Opener) ∷ Handles 0 (packet_of 6 (client 14) Opener) ∷ Tells 1 ∷ Settles ∷ []) 1
     ≡ Some (turn.NoRoom (client 13) ∷ [])
 unfolding hash_of first_plan is_withdrawn opening_controller opening_pipes opening_words read_vip says reserved_word live_word read_head read_server read_flag has_bit read_report first_act taking
 no_room = refl
 
 -- an entry moves, so that an opener that it held is placed
 a_move : lines_after (scene (record small_shape { buckets = 2 }) [])
-    (Handles 0 (packet_of 1 (client 9) Opener) ∷ Settles ∷ Handles 0 (packet_of 2 (record { vip = 0; ip = 167772174; port = 1024 }) Opener) ∷ Settles ∷ [])
+    (Handles 0 (packet_of 1 (client 9) Opener) ∷ Settles
+    ∷ Handles 0 (packet_of 2 (record { vip = 0; ip = 167772174; port = 1024 }) Opener) ∷ Settles ∷ [])
     ≡ Some (line.Given 1 0 0 1
     ∷ line.Packet 1 2 3 0 (client 9) Opener (verdict.To 0 0 1)
     ∷ line.Reserved 4 (client 9) (Slot 1 0 0)

@@ -85,7 +85,8 @@ steps_of e (suc n) s = option_and_then (steps_of e n) (step_event e s)
 
 abbrev pub ended_in : ℕ → ℕ → Core → Option Core
 ended_in p zero s = None
-ended_in p (suc n) s = elim (idle_at p s) [ true ↦ Some s | false ↦ option_and_then (ended_in p n) (step_event (event.Step (actor.Pipe p)) s) ]
+ended_in p (suc n) s =
+    elim (idle_at p s) [ true ↦ Some s | false ↦ option_and_then (ended_in p n) (step_event (event.Step (actor.Pipe p)) s) ]
 
 abbrev pub turns_of : ℕ → Core → Option Core
 turns_of zero s = Some s

@@ -103,7 +103,8 @@ abbrev Falls : LayoutView → Job → Job → Type 0
 Falls l j next = (1 ≤ job_left l next) × (job_left l next < job_left l j)
 
 -- a look that doesn't end the turn found an empty cell, and a pipe is next
-look_goes_on : (empty more : Bool) (rest took : Turn) → (if empty then (if more then None else Some rest) else Some took) ≡ None → (empty ≡ true) × (more ≡ true)
+look_goes_on : (empty more : Bool) (rest took : Turn) → (if empty then (if more then None else Some rest) else Some took) ≡ None
+    → (empty ≡ true) × (more ≡ true)
 look_goes_on true true rest took e = (refl, refl)
 look_goes_on true false rest took e = cc
 look_goes_on false more rest took e = cc
@@ -142,16 +143,19 @@ module _ (k : Config) (c : ControllerView) (x : ℕ) where
 abbrev Splits : Config → ControllerView → ℕ → List ℕ → Turn × ControllerView → Type 0
 Splits k c x xs p = (xs ≡ []) ⊎ ((turn_at k c c.job x ≡ None) × (turn_from k (begun_after k c x) xs ≡ Some p))
 
-splits : (k : Config) (c : ControllerView) (x : ℕ) (xs : List ℕ) (p : Turn × ControllerView) → turn_from k c (x ∷ xs) ≡ Some p → Splits k c x xs p
+splits : (k : Config) (c : ControllerView) (x : ℕ) (xs : List ℕ) (p : Turn × ControllerView) → turn_from k c (x ∷ xs) ≡ Some p
+    → Splits k c x xs p
 splits k c x xs p e = at (turn_at k c c.job x) xs refl e
   where
-    at : (o : Option Turn) (ys : List ℕ) → turn_at k c c.job x ≡ o → ends_with (begun_after k c x) o ys (turn_from k (begun_after k c x) xs) ≡ Some p
+    at : (o : Option Turn) (ys : List ℕ) → turn_at k c c.job x ≡ o
+        → ends_with (begun_after k c x) o ys (turn_from k (begun_after k c x) xs) ≡ Some p
         → (ys ≡ []) ⊎ ((turn_at k c c.job x ≡ None) × (turn_from k (begun_after k c x) xs ≡ Some p))
     at (Some t) [] q f = inl refl
     at (Some t) (y ∷ ys) q f = cc
     at None ys q f = inr (q, f)
 
-turn_short : (k : Config) (answers : List ℕ) (c : ControllerView) (p : Turn × ControllerView) → 1 ≤ job_left k.layout c.job → turn_from k c answers ≡ Some p
+turn_short : (k : Config) (answers : List ℕ) (c : ControllerView) (p : Turn × ControllerView) → 1 ≤ job_left k.layout c.job
+    → turn_from k c answers ≡ Some p
     → length answers ≤ job_left k.layout c.job
 turn_short k [] c p h e = omega arith
 turn_short k (x ∷ xs) c p h e = by (splits k c x xs p e) (turn_short k xs (begun_after k c x) p)
@@ -159,14 +163,16 @@ turn_short k (x ∷ xs) c p h e = by (splits k c x xs p e) (turn_short k xs (beg
     by : Splits k c x xs p → (1 ≤ job_left k.layout (begun_after k c x).job → turn_from k (begun_after k c x) xs ≡ Some p → length xs ≤ job_left k.layout (begun_after k c x).job)
         → length (x ∷ xs) ≤ job_left k.layout c.job
     by (inl q) more = let n : length xs ≡ 0 = ap length q in omega (arith, h, n)
-    by (inr r) more = let f = falls k c x c.job (begun_after k c x).job (goes k c x c.job) h r.0 in omega (arith, more f.0 r.1, f.1)
+    by (inr r) more =
+        let f = falls k c x c.job (begun_after k c x).job (goes k c x c.job) h r.0 in omega (arith, more f.0 r.1, f.1)
 
 pub turns_are_short : TurnsAreShort
 turns_are_short k c told p e =
     let short = turn_short k told (begun k c) p (start_some k c c.job) e in
     omega (arith, short, job_most k.layout (begun k c).job)
 
-turn_ends : (k : Config) (answers : List ℕ) (c : ControllerView) → 1 ≤ job_left k.layout c.job → job_left k.layout c.job ≤ length answers
+turn_ends : (k : Config) (answers : List ℕ) (c : ControllerView) → 1 ≤ job_left k.layout c.job
+    → job_left k.layout c.job ≤ length answers
     → (n : ℕ) × (p : Turn × ControllerView) × (turn_from k c (take n answers) ≡ Some p)
 turn_ends k [] c h m = absurd (omega (arith, h, m))
 turn_ends k (x ∷ xs) c h m = by (turn_at k c c.job x) refl (turn_ends k xs (begun_after k c x))

@@ -22,9 +22,11 @@ use Rattle.sr_hash.specs.Uses.{digest_of}
 use Rattle.sr_machine.specs.declared.said.Said.TheVariants as said
 use Rattle.sr_machine.specs.Reads.{head_in, read_head, read_report, read_server, read_vip, report_in, steady, vip_in, says, live_word, reserved_word, stands_for, cell_says, row_says}
 
-pub vip_read : (l : LayoutView) (w : VipWord) → IsVipWord w → w.cur < l.shape.versions → w.next < l.shape.versions → read_vip l (packed_vip w) ≡ w
+pub vip_read : (l : LayoutView) (w : VipWord) → IsVipWord w → w.cur < l.shape.versions → w.next < l.shape.versions
+    → read_vip l (packed_vip w) ≡ w
 unfolding read_vip
-vip_read l w h a b = ap (vip_in l) (vip_trip.unpacks w h) ∙ at (nat_lt w.cur l.shape.versions) (nat_lt w.next l.shape.versions) (grind (arith, nat_tests)) (grind (arith, nat_tests))
+vip_read l w h a b =
+    ap (vip_in l) (vip_trip.unpacks w h) ∙ at (nat_lt w.cur l.shape.versions) (nat_lt w.next l.shape.versions) (grind (arith, nat_tests)) (grind (arith, nat_tests))
   where
     at : (x y : Bool) → x ≡ true → y ≡ true → (if x && y then w else steady 0) ≡ w
     at true true p q = refl
@@ -65,13 +67,15 @@ digest_fits l i way key =
     let some : 2 ^ 0 ≤ 2 ^ l.shape.digest_bits = pow_mono {i = 0} {j = l.shape.digest_bits} (omega arith) in
     omega (arith, most, mod_below (hash_of (way + 2) key) (2 ^ l.shape.digest_bits) (omega (arith, some)))
 
-live_if : (t v : Bool) (n : ℕ) → v ≡ true → (if t && v then said.Live n else said.Nothing) ≡ (if t then said.Live n else said.Nothing)
+live_if : (t v : Bool) (n : ℕ) → v ≡ true
+    → (if t && v then said.Live n else said.Nothing) ≡ (if t then said.Live n else said.Nothing)
 live_if true true n e = refl
 live_if false v n e = refl
 live_if true false n e = cc
 
 -- an entry that is live says so to every key that it is taken for
-pub live_says : (l : LayoutView) → IsLayout l → (place : Place) (key other : KeyView) (version : ℕ) → IsKey key → version < l.shape.versions
+pub live_says : (l : LayoutView) → IsLayout l → (place : Place) (key other : KeyView) (version : ℕ) → IsKey key
+    → version < l.shape.versions
     → says l place other (live_word l place key version) ≡ (if stands_for l place key other then said.Live version else said.Nothing)
 unfolding says live_word
 live_says l i (Slot way bucket cell) key other version h v =
@@ -87,7 +91,11 @@ pub reserved_says : (l : LayoutView) → IsLayout l → (place : Place) (key oth
     → says l place other (reserved_word l place key) ≡ (if stands_for l place key other then said.Reserved else said.Nothing)
 unfolding says reserved_word
 reserved_says l i (Slot way bucket cell) key other h =
-    ap (cell_says l way other) (slot_trip.unpacks (slot.Reserved key.vip (digest_of way key l.shape.digest_bits)) (record { vip = h.vip; parts = digest_fits l i way key }))
+    ap (cell_says l way other) (slot_trip.unpacks (slot.Reserved key.vip (digest_of way key l.shape.digest_bits)) (record {
+      vip =
+          h.vip;
+      parts = digest_fits l i way key;
+    }))
 reserved_says l i (Row row) key other h = ap (row_says l other) (full_trip.unpacks (full.Reserved key) h)
 
 -- an empty place says nothing

@@ -37,26 +37,34 @@ pub record NoAct (k : Config) (c : ControllerView) : Type 0 where
 
 -- what a controller without a job begins
 pub data Begins (k : Config) (c : ControllerView) : Start → Type 0 where
-  refuses : (g : GiveChange) (rest : List GiveChange) → c.refusing ≡ true → c.gives ≡ g ∷ rest → Begins k c (refusal_start c g rest)
-  takes_down : (o : Outage) (rest : List Outage) → c.outages ≡ o ∷ rest → has_come o.at_ms c.clock ≡ true → Begins k c (outage_start c o rest)
-  holds : (u : PoolUpdate) → c.update ≡ Some u → (vip_at c.vips u.vip).phase ≡ Recording → first_before_hold u.vip c.mark c.book.entries ≡ None
+  refuses : (g : GiveChange) (rest : List GiveChange) → c.refusing ≡ true → c.gives ≡ g ∷ rest
+      → Begins k c (refusal_start c g rest)
+  takes_down : (o : Outage) (rest : List Outage) → c.outages ≡ o ∷ rest → has_come o.at_ms c.clock ≡ true
+      → Begins k c (outage_start c o rest)
+  holds : (u : PoolUpdate) → c.update ≡ Some u → (vip_at c.vips u.vip).phase ≡ Recording
+      → first_before_hold u.vip c.mark c.book.entries ≡ None
       → Begins k c (with_job c (job.Draw (draw.Comes u Holding)))
-  finishes : (u : PoolUpdate) → c.update ≡ Some u → (vip_at c.vips u.vip).phase ≡ Transit → first_before_finish u.vip u.replaced c.book.entries ≡ None
+  finishes : (u : PoolUpdate) → c.update ≡ Some u → (vip_at c.vips u.vip).phase ≡ Transit
+      → first_before_finish u.vip u.replaced c.book.entries ≡ None
       → Begins k c (with_job c (job.Store (store.Vip u Steady)))
-  changes : (g : GiveChange) (rest : List GiveChange) (number : ℕ) → c.update ≡ None → c.gives ≡ g ∷ rest → has_come g.at_ms c.clock ≡ true
+  changes : (g : GiveChange) (rest : List GiveChange) (number : ℕ) → c.update ≡ None → c.gives ≡ g ∷ rest
+      → has_come g.at_ms c.clock ≡ true
       → least_free g.vip c.numbers ≡ Some number → Begins k c (beginning c rest (update_to c g number))
   answers : (h : HeldOpener) (rest : List HeldOpener) (e : Entry) → c.held ≡ h ∷ rest → entry_for h.key c.book.entries ≡ Some e
       → Begins k c (with_job c (job.Draw (draw.Answer (record { held = h; version = Some e.version }))))
   places_held : (h : HeldOpener) (rest : List HeldOpener) (p : Put) → c.held ≡ h ∷ rest → entry_for h.key c.book.entries ≡ None
-      → put_of h.key (aim.Held h) (first_plan k.layout.shape c.book.entries h.key) ≡ Some p → Begins k c (with_job c (job.Draw (draw.Reserved p)))
+      → put_of h.key (aim.Held h) (first_plan k.layout.shape c.book.entries h.key) ≡ Some p
+      → Begins k c (with_job c (job.Draw (draw.Reserved p)))
   has_no_place : (h : HeldOpener) (rest : List HeldOpener) → c.held ≡ h ∷ rest → entry_for h.key c.book.entries ≡ None
       → put_of h.key (aim.Held h) (first_plan k.layout.shape c.book.entries h.key) ≡ None
       → Begins k c (with_job c (job.Draw (draw.Answer (record { held = h; version = None }))))
   places : (e : Entry) (p : Put) → Contains c.book.entries e → is_pending e ≡ true
-      → put_of e.key aim.Pending (first_plan k.layout.shape c.book.entries e.key) ≡ Some p → Begins k c (with_job c (job.Draw (draw.Reserved p)))
+      → put_of e.key aim.Pending (first_plan k.layout.shape c.book.entries e.key) ≡ Some p
+      → Begins k c (with_job c (job.Draw (draw.Reserved p)))
   retires : (e : Entry) (place : Place) → first_retirable k.layout.shape.lives c.book.entries ≡ Some e → e.place ≡ Some place
       → Begins k c (with_job c (job.Draw (draw.Retired e.key place e.version)))
-  sweeps : (ms : ℕ) → c.clock ≡ Some ms → nat_le (c.swept_ms + k.layout.shape.idle_ms) ms ≡ true → Begins k c (with_job c (job.Draw (draw.From ms)))
+  sweeps : (ms : ℕ) → c.clock ≡ Some ms → nat_le (c.swept_ms + k.layout.shape.idle_ms) ms ≡ true
+      → Begins k c (with_job c (job.Draw (draw.From ms)))
   releases : (vip version : ℕ) → first_drained c.numbers c.book.entries ≡ Some (vip, version)
       → Begins k c (with_job c (job.Draw (draw.Grace (wait.Release vip version))))
   looks : NoAct k c → Begins k c (with_job c (job.Look 0))

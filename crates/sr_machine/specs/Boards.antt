@@ -41,7 +41,8 @@ FitsAfter fits op answer after = (k : Config) (v : View) → fits k v → view_o
 
 -- where the words were told, the answer is theirs, and the words after the step are told
 abbrev pub ShowsAfter : ((Name → ℕ) → Type 0) → Op → ℕ → ((Name → ℕ) → Type 0) → Type 0
-ShowsAfter shows op answer after = (words : Name → ℕ) → shows words → (answer ≡ op_answer op (words (op_name op))) × after (op_words words op)
+ShowsAfter shows op answer after =
+    (words : Name → ℕ) → shows words → (answer ≡ op_answer op (words (op_name op))) × after (op_words words op)
 
 -- ---- a telling
 

@@ -67,7 +67,8 @@ stage_after_all l (x ∷ xs) stage = stage_after_all l xs (stage_after l stage x
 
 -- A packet is out after 25 steps, whatever they answer.
 abbrev pub PacketsEnd : Type 0
-PacketsEnd = (l : LayoutView) (packet : Packet) (answers : List ℕ) → 25 ≤ length answers → stage_after_all l answers (Enter packet) ≡ Idle
+PacketsEnd =
+    (l : LayoutView) (packet : Packet) (answers : List ℕ) → 25 ≤ length answers → stage_after_all l answers (Enter packet) ≡ Idle
 
 -- ---- a turn
 
@@ -124,7 +125,9 @@ job_left l (job.Hit from ms key place taken) = 1
 
 -- A turn makes at most 4 steps, or as many as there are pipes.
 abbrev pub TurnsAreShort : Type 0
-TurnsAreShort = (k : Config) (c : ControllerView) (answers : List ℕ) (p : Turn × ControllerView) → turn_by k c answers ≡ Some p → length answers ≤ most_steps k.layout
+TurnsAreShort =
+    (k : Config) (c : ControllerView) (answers : List ℕ) (p : Turn × ControllerView) → turn_by k c answers ≡ Some p
+    → length answers ≤ most_steps k.layout
 
 -- And it ends within these, whatever they answer.
 abbrev pub TurnsEnd : Type 0

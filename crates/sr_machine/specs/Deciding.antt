@@ -69,7 +69,8 @@ server_for k named key version = unwrap_or (server_of k.pools (named_at named ke
 -- the answer to an opener of the key under a version
 abbrev pub verdict_under : Config → List (List ℕ) → List ℕ → KeyView → ℕ → Verdict
 verdict_under k named down key version =
-    let server = server_for k named key version in verdict_by (is_down down server) server version (named_at named key.vip version)
+    let server = server_for k named key version in
+    verdict_by (is_down down server) server version (named_at named key.vip version)
 
 abbrev pub verdict_of : Config → List (List ℕ) → List ℕ → KeyView → Option ℕ → Verdict
 verdict_of k named down key None = NoPlace
@@ -77,7 +78,8 @@ verdict_of k named down key (Some version) = verdict_under k named down key vers
 
 -- ---- whether a reserved entry is withdrawn
 
--- Where a held opener's key is registered nowhere and the server that it would learn is down, the opener is answered so, and its key isn't placed.
+-- Where a held opener's key is registered nowhere and the server that it would learn is down, the opener is answered so, and its
+-- key isn't placed.
 abbrev pub reply_if : Bool → Reply → Option Reply
 reply_if down reply = if down then Some reply else None
 
@@ -98,7 +100,8 @@ is_contested shape (Slot way bucket cell) key entries = is_clashing shape way ke
 is_contested shape (Row row) key entries = false
 
 unfoldable pub is_withdrawn : Config → ControllerView → Put → Bool
-is_withdrawn k c put = is_contested k.layout.shape put.place put.key (rivals_of put.aim c.book.entries) || is_some (dead_reply k c put.aim)
+is_withdrawn k c put =
+    is_contested k.layout.shape put.place put.key (rivals_of put.aim c.book.entries) || is_some (dead_reply k c put.aim)
 
 -- ---- bounds
 

@@ -42,30 +42,41 @@ pub data Goes (k : Config) (c : ControllerView) (x : ℕ) : Job → Job → Type
   reserved : (p : Put) → Goes k c x (Draw (draw.Reserved p)) (Store (store.Reserved p))
   placed : (p : Put) → Goes k c x (Draw (draw.Placed p)) (Draw (draw.Grace (wait.Live p)))
   cleared : (key : KeyView) (place : Place) (w : Why) → Goes k c x (Draw (draw.Cleared key place w)) (cleared_job key w)
-  retired : (key : KeyView) (place : Place) (version : ℕ) → Goes k c x (Draw (draw.Retired key place version)) (Store (store.Empty key place (why.Retired version)))
+  retired : (key : KeyView) (place : Place) (version : ℕ)
+      → Goes k c x (Draw (draw.Retired key place version)) (Store (store.Empty key place (why.Retired version)))
   answered : (r : Reply) → Goes k c x (Draw (draw.Answer r)) Free
-  sweep_begins : (ms : ℕ) (e : Entry) (place : Place) → SweepsTo e place (placed_from 0 c.book.entries) → Goes k c x (Draw (draw.From ms)) (Hit x ms e.key place e.taken)
+  sweep_begins : (ms : ℕ) (e : Entry) (place : Place) → SweepsTo e place (placed_from 0 c.book.entries)
+      → Goes k c x (Draw (draw.From ms)) (Hit x ms e.key place e.taken)
   sweep_empty : (ms : ℕ) → placed_from 0 c.book.entries ≡ None → Goes k c x (Draw (draw.From ms)) (Draw (draw.Swept x ms))
   swept : (from ms : ℕ) → Goes k c x (Draw (draw.Swept from ms)) Free
   -- stores
   downed : (server : ℕ) → Goes k c x (Store (store.Down server)) Free
-  member_next : (u : PoolUpdate) (index : ℕ) → is_last_member k u index ≡ false → Goes k c x (Store (store.Member u index)) (Store (store.Member u (index + 1)))
-  member_last : (u : PoolUpdate) (index : ℕ) → is_last_member k u index ≡ true → Goes k c x (Store (store.Member u index)) (Store (store.Head u))
+  member_next : (u : PoolUpdate) (index : ℕ) → is_last_member k u index ≡ false
+      → Goes k c x (Store (store.Member u index)) (Store (store.Member u (index + 1)))
+  member_last : (u : PoolUpdate) (index : ℕ) → is_last_member k u index ≡ true
+      → Goes k c x (Store (store.Member u index)) (Store (store.Head u))
   head : (u : PoolUpdate) → Goes k c x (Store (store.Head u)) (Draw (draw.Given u))
   phase_stored : (u : PoolUpdate) (p : Phase) → Goes k c x (Store (store.Vip u p)) (Draw (vip_draw u p))
-  filter_next : (u : PoolUpdate) (index : ℕ) → is_last_filter k.layout index ≡ false → Goes k c x (Store (store.Filter u index)) (Store (store.Filter u (index + 1)))
-  filter_last : (u : PoolUpdate) (index : ℕ) → is_last_filter k.layout index ≡ true → Goes k c x (Store (store.Filter u index)) Free
+  filter_next : (u : PoolUpdate) (index : ℕ) → is_last_filter k.layout index ≡ false
+      → Goes k c x (Store (store.Filter u index)) (Store (store.Filter u (index + 1)))
+  filter_last : (u : PoolUpdate) (index : ℕ) → is_last_filter k.layout index ≡ true
+      → Goes k c x (Store (store.Filter u index)) Free
   reserve_stored : (p : Put) → Goes k c x (Store (store.Reserved p)) (Draw (draw.Grace (wait.Judge p)))
   judged_live : (p : Put) → is_withdrawn k c p ≡ false → Goes k c x (Store (store.Judge p)) (Draw (draw.Placed p))
   judged_withdrawn : (p : Put) → is_withdrawn k c p ≡ true
       → Goes k c x (Store (store.Judge p)) (Draw (draw.Cleared p.key p.place (why.Withdrawn (dead_reply k c p.aim))))
-  emptied : (key : KeyView) (place : Place) (w : Why) → Goes k c x (Store (store.Empty key place w)) (Draw (draw.Cleared key place w))
+  emptied : (key : KeyView) (place : Place) (w : Why)
+      → Goes k c x (Store (store.Empty key place w)) (Draw (draw.Cleared key place w))
   -- waits
   pass_stays : (g pipe : ℕ) (w : Wait) → is_under_way g x ≡ true → Goes k c x (Pass g pipe w) (Pass g pipe w)
-  pass_next : (g pipe : ℕ) (w : Wait) → is_under_way g x ≡ false → has_next k.layout pipe ≡ true → Goes k c x (Pass g pipe w) (Pass g (pipe + 1) w)
-  pass_last : (g pipe : ℕ) (w : Wait) → is_under_way g x ≡ false → has_next k.layout pipe ≡ false → Goes k c x (Pass g pipe w) (all_passed w)
-  drain_stays : (pipe count : ℕ) (w : Wait) → is_ring_done k.layout count x ≡ false → Goes k c x (Drain pipe count w) (Drain pipe (count + 1) w)
-  drain_next : (pipe count : ℕ) (w : Wait) → is_ring_done k.layout count x ≡ true → has_next k.layout pipe ≡ true → Goes k c x (Drain pipe count w) (Drain (pipe + 1) 0 w)
+  pass_next : (g pipe : ℕ) (w : Wait) → is_under_way g x ≡ false → has_next k.layout pipe ≡ true
+      → Goes k c x (Pass g pipe w) (Pass g (pipe + 1) w)
+  pass_last : (g pipe : ℕ) (w : Wait) → is_under_way g x ≡ false → has_next k.layout pipe ≡ false
+      → Goes k c x (Pass g pipe w) (all_passed w)
+  drain_stays : (pipe count : ℕ) (w : Wait) → is_ring_done k.layout count x ≡ false
+      → Goes k c x (Drain pipe count w) (Drain pipe (count + 1) w)
+  drain_next : (pipe count : ℕ) (w : Wait) → is_ring_done k.layout count x ≡ true → has_next k.layout pipe ≡ true
+      → Goes k c x (Drain pipe count w) (Drain (pipe + 1) 0 w)
   drain_last : (pipe count : ℕ) (w : Wait) → is_ring_done k.layout count x ≡ true → has_next k.layout pipe ≡ false
       → Goes k c x (Drain pipe count w) (waited_job c.vips (book_next k c (Drain pipe count w) x).entries w)
   -- looks and sweeps

@@ -105,7 +105,8 @@ marked done (wait.Comes u Recording) taken mark = if done then taken else mark
 marked done w taken mark = mark
 
 abbrev pub mark_next : Config → ControllerView → Job → ℕ → ℕ
-mark_next k c (Drain pipe count w) x = marked (is_wait_done k.layout pipe count x) w (book_next k c (Drain pipe count w) x).taken c.mark
+mark_next k c (Drain pipe count w) x =
+    marked (is_wait_done k.layout pipe count x) w (book_next k c (Drain pipe count w) x).taken c.mark
 mark_next k c j x = c.mark
 
 -- ---- servers, sweeps, ticks, lines
@@ -139,7 +140,8 @@ job_next k c (Store s) x = store_job k c s
 job_next k c (Pass grace pipe w) x = pass_job k.layout grace pipe w x
 job_next k c (Drain pipe count w) x = drain_job k.layout c.vips (book_next k c (Drain pipe count w) x).entries pipe count w x
 job_next k c (Look pipe) x = look_job k.layout pipe x
-job_next k c (Hit from ms key place taken) x = sweeping (book_next k c (Hit from ms key place taken) x).entries from ms (taken + 1)
+job_next k c (Hit from ms key place taken) x =
+    sweeping (book_next k c (Hit from ms key place taken) x).entries from ms (taken + 1)
 
 -- ---- the whole view
 

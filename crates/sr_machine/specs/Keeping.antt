@@ -1,4 +1,5 @@
--- What a fact about states owes so that every event keeps it: one obligation for each form of step, with all tests decided, and for each telling.
+-- What a fact about states owes so that every event keeps it: one obligation for each form of step, with all tests decided, and
+-- for each telling.
 use Rattle.std.specs.Prelude.{◌≡◌, ℕ, ◌+◌, ◌^◌, nat_lt, true, length, slice_get, slice_set, Option, Some, None}
 use Rattle.sr_base.specs.declared.packet.Packet.{Packet}
 use Rattle.sr_machine.specs.Core.{Core}
@@ -44,7 +45,8 @@ AfterJob Fact s j (Some o) = Fact (job_core s j o)
 
 -- What is owed, where the base holds of the state before. The controller's steps are asked of states in which it has begun.
 pub record Keeps (Base Fact : Core → Type 0) : Type 0 where
-  pub stages : (s : Core) (p : ℕ) (v : PipeView) (stage : Stage) → slice_get s.pipes p ≡ Some v → v.stage ≡ stage → Base s → Fact s
+  pub stages : (s : Core) (p : ℕ) (v : PipeView) (stage : Stage) → slice_get s.pipes p ≡ Some v → v.stage ≡ stage → Base s
+      → Fact s
       → AfterStage Fact s p v stage (pipe_op s.config.layout v stage)
   pub begins : (s : Core) → Base s → Fact s → Fact (begun_core s)
   pub jobs : (s : Core) (j : Job) → s.controller.job ≡ j → in_bounds s.controller ≡ true → Base s → Fact s
@@ -54,4 +56,5 @@ pub record Keeps (Base Fact : Core → Type 0) : Type 0 where
       → Fact (record s { pipes = slice_set s.pipes p (record v { stage = Enter packet }) })
   pub clocks : (s : Core) (ms : ℕ) → is_no_earlier s.controller.clock ms ≡ true → Base s → Fact s
       → Fact (record s { controller = record s.controller { clock = Some ms } })
-  pub refusals : (s : Core) → may_refuse s.controller ≡ true → Base s → Fact s → Fact (record s { controller = record s.controller { refusing = true } })
+  pub refusals : (s : Core) → may_refuse s.controller ≡ true → Base s → Fact s
+      → Fact (record s { controller = record s.controller { refusing = true } })

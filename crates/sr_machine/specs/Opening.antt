@@ -23,7 +23,14 @@ use Rattle.sr_machine.specs.declared.pipe_view.PipeView.{PipeView}
 abbrev pub outages_in : List Change → List Outage
 outages_in [] = []
 outages_in (change ∷ rest) =
-    elim change.what [ Give vip pool ↦ outages_in rest | TakeDown server ↦ record { at_ms = change.at_ms; server = server } ∷ outages_in rest ]
+    elim change.what [
+      | Give vip pool ↦ outages_in rest
+      | TakeDown server ↦ record {
+        at_ms =
+            change.at_ms;
+        server = server;
+      } ∷ outages_in rest
+    ]
 
 -- number 0 of each virtual address has its pool 1
 abbrev pub opening_named : Config → List (List ℕ)

@@ -51,7 +51,10 @@ has_vip l packet = nat_lt packet.key.vip l.vips
 -- a packet enters where none is in hand; fewer than 2^32 do
 abbrev pub entered : LayoutView → Packet → PipeView → Option PipeView
 entered l packet v =
-    if is_idle v.stage && (has_vip l packet && nat_lt (length v.lines + 1) (2 ^ 32)) then Some (record v { stage = Enter packet }) else None
+    if is_idle v.stage && (has_vip l packet && nat_lt (length v.lines + 1) (2 ^ 32)) then Some (record v {
+      stage =
+          Enter packet;
+    }) else None
 
 -- a pipe that has done nothing yet
 abbrev pub fresh_pipe : ℕ → PipeView

@@ -1,5 +1,5 @@
--- How a word is read. Each reading takes in every number: what is no word of its kind, or speaks of what the layout doesn't have, is read as a
--- stated one that is. In a run no actor meets such a word.
+-- How a word is read. Each reading takes in every number: what is no word of its kind, or speaks of what the layout doesn't have,
+-- is read as a stated one that is. In a run no actor meets such a word.
 use Rattle.std.specs.Prelude.{ℕ, ◌/◌, ◌%◌, ◌^◌, ◌==◌, ◌&&◌, nat_lt, nat_le, Bool, Option, Some, None, if◌then◌else◌}
 use Rattle.sr_base.specs.FullWord.{packed_full, unpacked_full}
 use Rattle.sr_base.specs.Key.{KeyView, same_key}
@@ -41,7 +41,8 @@ read_vip l x = vip_in l (unpacked_vip x)
 
 -- what a cell of a way says to a packet of the key
 abbrev pub cell_says : LayoutView → ℕ → KeyView → Option SlotWord → Said
-cell_says l way key (Some (slot.Reserved vip digest)) = if tells_key vip digest way key l.shape.digest_bits then Reserved else Nothing
+cell_says l way key (Some (slot.Reserved vip digest)) =
+    if tells_key vip digest way key l.shape.digest_bits then Reserved else Nothing
 cell_says l way key (Some (slot.Live vip digest version)) =
     if tells_key vip digest way key l.shape.digest_bits && nat_lt version l.shape.versions then Live version else Nothing
 cell_says l way key word = Nothing
@@ -49,7 +50,8 @@ cell_says l way key word = Nothing
 -- what a row says to it
 abbrev pub row_says : LayoutView → KeyView → Option FullWord → Said
 row_says l key (Some (full.Reserved own)) = if same_key key own then Reserved else Nothing
-row_says l key (Some (full.Live own version)) = if same_key key own && nat_lt version l.shape.versions then Live version else Nothing
+row_says l key (Some (full.Live own version)) =
+    if same_key key own && nat_lt version l.shape.versions then Live version else Nothing
 row_says l key word = Nothing
 
 -- what the word at a place of the key says to it
@@ -69,7 +71,8 @@ live_word l (Row row) key version = packed_full (full.Live key version)
 
 -- the entry of a key at a place is taken for another key's
 abbrev pub stands_for : LayoutView → Place → KeyView → KeyView → Bool
-stands_for l (Slot way bucket cell) key other = tells_key key.vip (digest_of way key l.shape.digest_bits) way other l.shape.digest_bits
+stands_for l (Slot way bucket cell) key other =
+    tells_key key.vip (digest_of way key l.shape.digest_bits) way other l.shape.digest_bits
 stands_for l (Row row) key other = same_key other key
 
 -- ---- a pool

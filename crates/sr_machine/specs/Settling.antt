@@ -34,8 +34,8 @@ abbrev pub ending_of : Option Entry → Settled
 ending_of None = Quiet
 ending_of (Some e) = Waiting e.key
 
--- What a turn's answer is followed by: at an answer that nothing can be done a change is refused, where that can be told, and else the turns are
--- over; every other answer is followed by the next turn.
+-- What a turn's answer is followed by: at an answer that nothing can be done a change is refused, where that can be told, and
+-- else the turns are over; every other answer is followed by the next turn.
 pub data Follows : Type 0 where
   More : Follows
   Over : Follows

@@ -55,7 +55,8 @@ key_bits l key = bloom_places_of key l.shape.filter_bits
 abbrev pub held_or : Flight → HeldBy → ℕ → Leg
 held_or f by version = if is_opener f.packet.kind then Judged (verdict.Held by) last.Ring else Chosen version load.Head
 
--- the transit filter is looked at from here on; where all its places are set an opener is held, and another packet has the current version
+-- the transit filter is looked at from here on; where all its places are set an opener is held, and another packet has the
+-- current version
 abbrev pub filtering : Flight → List ℕ → Leg
 filtering f [] = held_or f by.Transit f.vip.cur
 filtering f (bit ∷ rest) = Filter bit rest
@@ -78,7 +79,8 @@ looking l f (place ∷ rest) = Look place rest
 -- what a place said: a live entry is found; a reserved one holds an opener, and is nothing to another packet
 abbrev pub looked : LayoutView → Flight → Place → List Place → Said → Leg
 looked l f place rest said.Nothing = looking l f rest
-looked l f place rest said.Reserved = if is_opener f.packet.kind then Judged (verdict.Held by.Clash) last.Ring else looking l f rest
+looked l f place rest said.Reserved =
+    if is_opener f.packet.kind then Judged (verdict.Held by.Clash) last.Ring else looking l f rest
 looked l f place rest (said.Live version) = Hit place version
 
 -- a clear bit gives the next version

@@ -75,9 +75,11 @@ outage_act c = outage_of c c.outages
 -- the update in a placing goes on once it waits for nothing
 abbrev pub going_on : ControllerView → PoolUpdate → Phase → Option Job
 going_on c u Steady = None
-going_on c u Recording = if is_none (first_before_hold u.vip c.mark c.book.entries) then Some (Draw (draw.Comes u Holding)) else None
+going_on c u Recording =
+    if is_none (first_before_hold u.vip c.mark c.book.entries) then Some (Draw (draw.Comes u Holding)) else None
 going_on c u Holding = None
-going_on c u Transit = if is_none (first_before_finish u.vip u.replaced c.book.entries) then Some (Store (store.Vip u Steady)) else None
+going_on c u Transit =
+    if is_none (first_before_finish u.vip u.replaced c.book.entries) then Some (Store (store.Vip u Steady)) else None
 
 -- the update that gives a virtual address this pool under this number
 abbrev pub update_to : ControllerView → GiveChange → ℕ → PoolUpdate
@@ -91,7 +93,8 @@ beginning c rest u = record (with_job c (Store (store.Member u 0))) { gives = re
 abbrev pub change_of : ControllerView → List GiveChange → Option Start
 change_of c [] = None
 change_of c (g ∷ rest) =
-    if has_come g.at_ms c.clock then option_map (λ number. beginning c rest (update_to c g number)) (least_free g.vip c.numbers) else None
+    if has_come g.at_ms c.clock then
+    option_map (λ number. beginning c rest (update_to c g number)) (least_free g.vip c.numbers) else None
 
 abbrev pub update_of : ControllerView → Option PoolUpdate → Option Start
 update_of c None = change_of c c.gives
@@ -112,7 +115,8 @@ put_of key what plan.NoRoom = None
 abbrev pub planned_put : Shape → List Entry → KeyView → Aim → Option Put
 planned_put shape entries key what = put_of key what (first_plan shape entries key)
 
--- a held opener: one of a registered key is answered; the key of another one is placed first, and without a place it is answered so
+-- a held opener: one of a registered key is answered; the key of another one is placed first, and without a place it is answered
+-- so
 abbrev pub opener_job : HeldOpener → Option Entry → Option Put → Job
 opener_job h (Some e) p = Draw (draw.Answer (record { held = h; version = Some e.version }))
 opener_job h None (Some p) = Draw (draw.Reserved p)
@@ -121,7 +125,8 @@ opener_job h None None = Draw (draw.Answer (record { held = h; version = None })
 abbrev pub opener_of : Config → ControllerView → List HeldOpener → Option Start
 opener_of k c [] = None
 opener_of k c (h ∷ rest) =
-    Some (with_job c (opener_job h (entry_for h.key c.book.entries) (planned_put k.layout.shape c.book.entries h.key (aim.Held h))))
+    Some (with_job c (opener_job h (entry_for h.key c.book.entries)
+    (planned_put k.layout.shape c.book.entries h.key (aim.Held h))))
 
 abbrev pub opener_act : Config → ControllerView → Option Start
 opener_act k c = opener_of k c c.held
@@ -185,7 +190,8 @@ start_of k c = start_by k c c.job
 
 -- the view with what is decided
 abbrev pub with_start : ControllerView → Start → ControllerView
-with_start c s = record c { gives = s.gives; outages = s.outages; refusing = s.refusing; update = s.update; mark = s.mark; job = s.job }
+with_start c s =
+    record c { gives = s.gives; outages = s.outages; refusing = s.refusing; update = s.update; mark = s.mark; job = s.job }
 
 -- the view with its next act's first job, where none was set. It makes no step, so what is told before the step counts for it.
 abbrev pub begun : Config → ControllerView → ControllerView

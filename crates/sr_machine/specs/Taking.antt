@@ -59,7 +59,8 @@ held_after pipe punts held (Some w) =
 
 -- a learned key is registered; a registered key whose connection ended is marked so
 abbrev pub book_by : NumberRows → Option KeyView → Book → KeyView → ℕ → RingKind → Book
-book_by numbers ended book key version Learn = if is_current_at (state_of key.vip version numbers) then with_taken key version book else book
+book_by numbers ended book key version Learn =
+    if is_current_at (state_of key.vip version numbers) then with_taken key version book else book
 book_by numbers ended book key version Punt = book
 book_by numbers ended book key version Close = if is_ended key ended then book else with_closed key book
 

@@ -96,7 +96,8 @@ turn_at k c (job.Draw d) x = option_map Did (draw_act d)
 turn_at k c (job.Store s) x = option_map Did (store_act s)
 turn_at k c (job.Pass grace pipe w) x = Some (if is_under_way grace x then NotYet pipe x else Did act.Passed)
 turn_at k c (job.Drain pipe count w) x = Some (Did (drain_act (is_wait_done k.layout pipe count x) w x))
-turn_at k c (job.Look pipe) x = if x == 0 then (if has_next k.layout pipe then None else Some (rest_of c)) else Some (Did act.Took)
+turn_at k c (job.Look pipe) x =
+    if x == 0 then (if has_next k.layout pipe then None else Some (rest_of c)) else Some (Did act.Took)
 turn_at k c (job.Hit from ms key place taken) x = Some (Did act.Swept)
 
 -- ---- a turn, by what its steps answered
@@ -134,7 +135,9 @@ turn_of_op s o = let c = begun s.config s.controller in turn_at s.config c c.job
 -- a turn of so many steps at most: what it answers, and the state then
 abbrev pub turned_in : ℕ → Core → Option (Turn × Core)
 turned_in zero s = None
-turned_in (suc n) s = option_and_then (λ o. over_or (controlled s o) (turn_of_op s o) (turned_in n (controlled s o))) (controller_op s.config s.controller)
+turned_in (suc n) s =
+    option_and_then (λ o. over_or (controlled s o) (turn_of_op s o) (turned_in n (controlled s o)))
+    (controller_op s.config s.controller)
 
 -- the most steps that a turn makes
 abbrev pub most_steps : LayoutView → ℕ

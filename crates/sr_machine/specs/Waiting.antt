@@ -1,5 +1,5 @@
--- The controller waits: each pipe's packet passes, and then the reports in the rings are taken. And it looks at the rings where nothing else is
--- to be done.
+-- The controller waits: each pipe's packet passes, and then the reports in the rings are taken. And it looks at the rings where
+-- nothing else is to be done.
 use Rattle.std.specs.Prelude.{ℕ, ◌+◌, ◌==◌, ◌&&◌, ◌||◌, nat_lt, not, Bool, List, Some, if◌then◌else◌}
 use Rattle.sr_base.specs.Layout.{LayoutView}
 use Rattle.sr_base.specs.declared.vip_word.Phase.{Phase}
@@ -61,7 +61,8 @@ is_wait_done l pipe count x = is_ring_done l count x && not (has_next l pipe)
 
 abbrev pub live_job : List VipWord → List Entry → Put → Aim → Job
 live_job vips entries p aim.Pending = job.Free
-live_job vips entries p (aim.Held h) = job.Draw (draw.Answer (record { held = h; version = Some (version_for vips entries p.key) }))
+live_job vips entries p (aim.Held h) =
+    job.Draw (draw.Answer (record { held = h; version = Some (version_for vips entries p.key) }))
 live_job vips entries p (aim.Move from planned) = job.Store (store.Empty p.key from why.Source)
 
 abbrev pub waited_phase : PoolUpdate → Phase → Job

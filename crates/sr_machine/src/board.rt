@@ -9,8 +9,8 @@ ghost use Rattle.sr_machine.specs.declared.view.View.{View};
 
 use sr_base::{Packet, WordName};
 
-/// One actor's access to the shared words. Each step is the next one of a view that the board fits, and is made at once; a telling makes no
-/// step, and the next step makes what was told known.
+/// One actor's access to the shared words. Each step is the next one of a view that the board fits, and is made at once; a
+/// telling makes no step, and the next step makes what was told known.
 pub trait Board {
     /// The views of its actor that it fits, for what the machine was made for.
     ghost fits: { Self → Config → View → Type 0 };

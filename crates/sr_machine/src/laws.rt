@@ -31,13 +31,15 @@ pub fn packets_end()
     ensures { PacketsEnd }
 {}
 
-/// A law: a turn of the controller makes at most 4 steps, or as many as there are pipes; and it ends within these, whatever they answer.
+/// A law: a turn of the controller makes at most 4 steps, or as many as there are pipes; and it ends within these, whatever they
+/// answer.
 pub fn turns_end()
     ensures short { TurnsAreShort }
     ensures end { TurnsEnd }
 {}
 
-/// A law: what a free controller begins is one of a list of cases, and so is the job after a step; each case says why it is that one.
+/// A law: what a free controller begins is one of a list of cases, and so is the job after a step; each case says why it is that
+/// one.
 pub fn acts_have_cases()
     ensures begun { (k : Config) (c : ControllerView) → Begins k c (first_act k c) }
     ensures next { (k : Config) (c : ControllerView) (x : ℕ) (j : AJob) → Goes k c x j (job_next k c j x) }
@@ -55,15 +57,21 @@ pub fn names_agree()
     ensures back { (name : AName) → name_for (word_name name) ≡ name }
 {}
 
-/// A law: what is written is read. A live entry tells its version to each key that it is taken for, and nothing to any other; so does a reserved one,
-/// and an empty place tells nothing; heads, virtual addresses' words and reports are read as they were written.
+/// A law: what is written is read. A live entry tells its version to each key that it is taken for, and nothing to any other; so
+/// does a reserved one, and an empty place tells nothing; heads, virtual addresses' words and reports are read as they were
+/// written.
 pub fn words_are_read()
-    ensures live { (l : LayoutView) → IsLayout l → (place : Place) (key other : KeyView) (version : ℕ) → IsKey key → version < l.shape.versions
-        → says l place other (live_word l place key version) ≡ (if stands_for l place key other then said.Live version else said.Nothing) }
+    ensures live { (l : LayoutView) → IsLayout l → (place : Place) (key other : KeyView) (version : ℕ)
+        → IsKey key → version < l.shape.versions
+        → says l place other (live_word l place key version)
+        ≡ (if stands_for l place key other then said.Live version else said.Nothing) }
     ensures reserved { (l : LayoutView) → IsLayout l → (place : Place) (key other : KeyView) → IsKey key
-        → says l place other (reserved_word l place key) ≡ (if stands_for l place key other then said.Reserved else said.Nothing) }
+        → says l place other (reserved_word l place key)
+        ≡ (if stands_for l place key other then said.Reserved else said.Nothing) }
     ensures empty { (l : LayoutView) (place : Place) (other : KeyView) → says l place other 0 ≡ said.Nothing }
-    ensures vip { (l : LayoutView) (w : VipWord) → IsVipWord w → w.cur < l.shape.versions → w.next < l.shape.versions → read_vip l (packed_vip w) ≡ w }
+    ensures vip { (l : LayoutView) (w : VipWord) → IsVipWord w → w.cur < l.shape.versions → w.next < l.shape.versions
+        → read_vip l (packed_vip w) ≡ w }
     ensures head { (l : LayoutView) (h : RowHead) → IsRowHead h → h.size ≤ l.shape.pool_max → read_head l (packed_head h) ≡ h }
-    ensures report { (l : LayoutView) (w : RingWord) → IsRingWord w → w.key.vip < l.vips → read_report l (packed_ring w) ≡ Some w }
+    ensures report { (l : LayoutView) (w : RingWord) → IsRingWord w → w.key.vip < l.vips
+        → read_report l (packed_ring w) ≡ Some w }
 {}

@@ -1,6 +1,6 @@
-//! The load balancer as one machine: pipes and a controller that share words, and every atomic step that each of them makes. The definitions in
-//! `specs/` say what a step is and what its actor knows after it; `specs/Core.antt` puts them together to states, events and runs. The types here are
-//! what actors know. No value of the views is made: contracts speak of them.
+//! The load balancer as one machine: pipes and a controller that share words, and every atomic step that each of them makes. The
+//! definitions in `specs/` say what a step is and what its actor knows after it; `specs/Core.antt` puts them together to states,
+//! events and runs. The types here are what actors know. No value of the views is made: contracts speak of them.
 //!
 //! | part | source files | `specs/` |
 //! |---|---|---|
@@ -17,8 +17,8 @@
 //! | One actor's access to the words | `board`, `performing` | `Boards` |
 //! | What a fact owes so that every event keeps it | | `Keeping` |
 //!
-//! The mechanism is that of SilkRoad (SIGCOMM 2017): a table of digests with versions, insertion behind the packets, and a filter that keeps
-//! connections right while an update switches a pool.
+//! The mechanism is that of SilkRoad (SIGCOMM 2017): a table of digests with versions, insertion behind the packets, and a filter
+//! that keeps connections right while an update switches a pool.
 #![tactic(auto)]
 
 mod act;

@@ -3,7 +3,8 @@ ghost use Rattle.sr_machine.specs.Names.{word_name};
 
 use sr_base::{Place, WordName};
 
-/// The name of a shared word, as the definitions of the steps have it: the words of slots and rows are one kind, that of an entry.
+/// The name of a shared word, as the definitions of the steps have it: the words of slots and rows are one kind, that of an
+/// entry.
 #[derive(Clone, Copy)]
 pub enum Name {
     /// The next tick to be drawn.
