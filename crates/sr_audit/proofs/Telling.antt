@@ -1,5 +1,5 @@
 -- Lines that tell of packets in their order.
-use Rattle.std.proofs.Common.{◌≡◌, ℕ, ◌+◌, ◌<◌, ◌≤◌, Bool, true, false, ◌&&◌, cond, List, [], ◌∷◌, ◌++◌, length, get_or, take, reverse, Option, None, Some, refl, sym, ap, subst, ◌∙◌, true≢false, arith}
+use Rattle.std.proofs.Common.{◌≡◌, ℕ, ◌+◌, ◌<◌, Bool, true, ◌&&◌, cond, List, [], ◌∷◌, ◌++◌, length, get_or, take, reverse, None, Some, refl, sym, ap, ◌∙◌, true≢false, arith}
 use Rattle.std.specs.List.{list_all, count_by}
 use Rattle.std.specs.Prelude.{nat_eq, option_to_list}
 use Rattle.std.proofs.lemmas.Bool.{and_parts, and_from, eqb-true, eq-eqb}

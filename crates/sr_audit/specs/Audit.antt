@@ -9,6 +9,7 @@ use Rattle.sr_audit.specs.Connections.{TellsConnections}
 use Rattle.sr_audit.specs.Downs.{TellsDowns}
 use Rattle.sr_audit.specs.LastGivings.{TellsGivings}
 use Rattle.sr_audit.specs.LastUpdate.{TellsUpdate}
+use Rattle.sr_audit.specs.Places.{TellsPlaces}
 use Rattle.sr_audit.specs.Switches.{TellsSwitches}
 use Rattle.sr_audit.specs.Versions.{TellsVersions}
 
@@ -25,3 +26,4 @@ pub record Tells (setup : SetupView) (audit : Audit) (before : List Line) : Type
   pub switches : TellsSwitches audit.switches before
   pub connections : TellsConnections audit.connections before
   pub downs : TellsDowns audit.downs before
+  pub places : TellsPlaces audit.places before

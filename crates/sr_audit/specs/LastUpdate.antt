@@ -1,5 +1,5 @@
 -- The last line of an update, after the first lines of a list.
-use Rattle.std.specs.Prelude.{◌≡◌, ℕ, List}
+use Rattle.std.specs.Prelude.{◌≡◌, List}
 use Rattle.sr_law.specs.declared.line.Line.{Line}
 use Rattle.sr_law.specs.Groups.{after_gives, last_of_update}
 use Rattle.sr_audit.specs.declared.last_update.LastUpdate.{LastUpdate}

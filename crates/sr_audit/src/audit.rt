@@ -7,6 +7,7 @@ use crate::connections::Connections;
 use crate::downs::Downs;
 use crate::last_givings::LastGivings;
 use crate::last_update::LastUpdate;
+use crate::places::Places;
 use crate::switches::Switches;
 use crate::versions::Versions;
 use sr_law::{Line, Setup};
@@ -21,6 +22,7 @@ pub(crate) struct Audit {
     pub(crate) switches: Switches,
     pub(crate) connections: Connections,
     pub(crate) downs: Downs,
+    pub(crate) places: Places,
 }
 
 impl Audit {
@@ -35,6 +37,7 @@ impl Audit {
             switches: Switches::new(alloc),
             connections: Connections::new(alloc),
             downs: Downs::new(alloc),
+            places: Places::new(alloc),
         })
     }
 
@@ -49,6 +52,7 @@ impl Audit {
         self.givings.absorb(line)?;
         self.switches.absorb(line)?;
         self.connections.absorb(line)?;
-        self.downs.absorb(line)
+        self.downs.absorb(line)?;
+        self.places.absorb(line)
     }
 }

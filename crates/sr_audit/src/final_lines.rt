@@ -1,8 +1,10 @@
-ghost use Rattle.std.specs.Prelude.{◌≡◌, true, reverse};
+ghost use Rattle.std.specs.Prelude.{◌≡◌, true, reverse, IfOk};
 ghost use Rattle.sr_law.specs.Final.{packets_of, same_packets, meets_final};
 
+use crate::pairing::pair;
 use sr_base::Packet;
-use sr_law::{Line, Setup, all_answers_held, all_held_answered, same_packet};
+use sr_law::{Line, Setup, same_packet};
+use std::alloc::{AllocError, Global};
 
 // The lines tell of these packets, in this order.
 #[tactic(auto, using(crate::proofs::Telling::told_more, crate::proofs::Telling::told_none, crate::proofs::Telling::same_packet_true))]
@@ -31,11 +33,9 @@ fn same_packets(lines: &[Line], packets: &[Packet]) -> bool
 
 // The first lines are there; the packets are those of the setup, each as often as there; and answers and held openers pair.
 #[tactic(auto, unfolding(sr_law::specs::Final::meets_final))]
-pub(crate) fn meets_final(setup: &Setup, all: &[Line]) -> bool
-    ensures { result ≡ meets_final setup.now (reverse all.now) }
+pub(crate) fn meets_final(alloc: Global, setup: &Setup, all: &[Line]) -> Result<bool, AllocError>
+    ensures { IfOk result (λ met. met ≡ meets_final setup.now (reverse all.now)) }
 {
-    setup.pools.vips() <= all.len()
-        && same_packets(all, &setup.packets)
-        && all_held_answered(all)
-        && all_answers_held(all)
+    let pairs = pair(alloc, all)?;
+    Ok(setup.pools.vips() <= all.len() && same_packets(all, &setup.packets) && pairs)
 }

@@ -16,8 +16,8 @@ use crate::audit::Audit;
 use crate::lately::rises;
 use sr_law::{
     Clause, Line, Opening, Setup, Verdict, goes_on, has_pool, in_range, is_known_down,
-    is_opening_give, keeps_places, meets_cause, meets_number, meets_retire, names_next_pool,
-    opened_by, refuses_next,
+    is_opening_give, meets_cause, meets_number, meets_retire, names_next_pool, opened_by,
+    refuses_next,
 };
 
 // The first lines give every virtual address its first pool, and after them each update goes on as it must.
@@ -45,7 +45,7 @@ fn meets_order(audit: &Audit, setup: &Setup, before: &[Line], line: &Line) -> bo
     keeps_groups(audit, setup, before, line)
         && rises(before, line)
         && in_range(setup, line)
-        && keeps_places(before, line)
+        && audit.places.keep(line)
         && refuses_next(before, line)
 }
 

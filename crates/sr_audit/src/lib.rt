@@ -10,20 +10,25 @@
 //! | What a virtual address was last switched to | `switches` |
 //! | Whether a connection is open, and how it was opened | `connections` |
 //! | Whether a server was taken down | `downs` |
-//! | Whether each packet has its final line, after the walk | `final_lines` |
+//! | Who has a place of the tables | `places` |
+//! | After the walk: whether each packet has its final line | `final_lines`; `pairing`: `answers`, `held_counts` |
 //!
-//! `judge` asks them, and asks the plain bodies of `sr_law` what has no index yet: where places stand, why openers were held or found their
+//! `judge` asks them, and asks the plain bodies of `sr_law` what has no index yet: why openers were held or found their
 //! ring full, whether a version is free, whether a connection was quiet, and the final lines. `walk` goes over the lines.
 #![tactic(auto)]
 
+mod answers;
 mod audit;
 mod connections;
 mod downs;
 mod final_lines;
+mod held_counts;
 mod judge;
 mod last_givings;
 mod last_update;
 mod lately;
+mod pairing;
+mod places;
 mod switches;
 mod versions;
 mod walk;

@@ -49,7 +49,7 @@ fn breach_of(
     match first_broken(alloc, setup, lines)? {
         Some(breach) => Ok(Some(breach)),
         None => {
-            if meets_final(setup, lines) {
+            if meets_final(alloc, setup, lines)? {
                 Ok(None)
             } else {
                 Ok(Some(CheckRefusal::Breach {

@@ -1,6 +1,5 @@
 use Rattle.std.proofs.Common.{◌≡◌, ◌+◌, ◌∷◌, length, reverse, take, sym, ap, subst, ◌∙◌, arith}
 use Rattle.std.proofs.lemmas.List.{length-reverse, length-take-le}
-use Rattle.sr_law.specs.declared.line.Line.{Line}
 use Rattle.sr_law.specs.Retire.{endings_of}
 use Rattle.sr_law.proofs.Breaches.{first_zero}
 use Rattle.sr_law.proofs.Newest.{newest_more}
