@@ -4,4 +4,5 @@ pub mod Front
 pub mod Interface
 pub mod Next
 pub mod Options
+pub mod Reader
 pub mod Reading

@@ -1,13 +1,14 @@
-ghost use Rattle.std.specs.Prelude.{◌≡◌, ◌≢◌, ℕ, ◌+◌, ◌<◌, ◌≤◌, List, length, take, Some, None, Err, IfOk};
+ghost use Rattle.std.specs.Prelude.{◌≡◌, ◌≢◌, ℕ, ◌+◌, ◌<◌, ◌≤◌, List, length, take, drop, Some, None, Err, IfOk, IfSome, option_map};
 ghost use Rattle.std.specs.Option.{ForSome};
 ghost use Rattle.sr_io.specs.Faults.{Rose};
-ghost use Rattle.sr_pcapng.specs.Block.{last_fault, closed, section_block, interface_block, packet_block, other_block};
+ghost use Rattle.sr_pcapng.specs.Block.{block_at, last_fault, closed, section_block, interface_block, packet_block, other_block};
 ghost use Rattle.sr_pcapng.specs.Front.{SectionView};
 ghost use Rattle.sr_pcapng.specs.Reading.{Gives};
 ghost use Rattle.sr_pcapng.specs.declared.ng_next.NgNext.TheVariants.{ReadFault};
 
 use crate::NgNext;
 use crate::endian::Endian;
+use crate::front::Front;
 use crate::interface::Interface;
 use crate::options::walk;
 use crate::packet_head::PacketHead;
@@ -18,8 +19,46 @@ use sr_io::Source;
 // The resolution of an interface that gives none: microseconds.
 const MICROSECONDS: u8 = 6;
 
-/// Reads a section header from the byte after its length on, and begins the section: how many bytes the block has.
-pub fn read_section<S: Source>(
+/// Reads a block, whose first eight bytes, or all that there are, have been read: the packet that it carries, if it carries one, and how many
+/// bytes it has. The captured bytes are put into the buffer `packet`.
+pub fn read_block<S: Source>(
+    source: &mut S,
+    scratch: &mut [u8],
+    section: &mut Section,
+    packet: &mut [u8],
+    offset: u64,
+    first: &[u8],
+) -> Result<(Option<PacketHead>, u32), NgNext>
+    requires scratch { 0 < length scratch.old }
+    requires packet { length packet.old ≡ 262144 }
+    requires first { length first.now ≤ 8 }
+    ensures reads { (xs : List ℕ) → S.left source.old ≡ Some (drop 8 xs) → first.now ≡ take 8 xs → Gives (λ r rest. record { packet = option_map (λ head. record { head = head; bytes = take head.captured packet.new }) r.0; section = section.new; size = r.1; rest = rest }) result (block_at section.old offset xs) (S.left source.new) }
+    ensures few { IfOk result (λ r. IfSome r.0 (λ head. head.captured ≤ 262144)) }
+    ensures count { S.faults source.old ≤ S.faults source.new }
+    ensures failed { result ≡ Err ReadFault → Rose (S.faults source.old) (S.faults source.new) }
+{
+    match section.front(offset, first)? {
+        Front::Section => {
+            let size = read_section(source, scratch, section, offset, &first[4..])?;
+            Ok((None, size))
+        }
+        Front::Interface { size } => {
+            read_interface(source, scratch, section, offset, size)?;
+            Ok((None, size))
+        }
+        Front::Packet { size } => {
+            let head = read_packet(source, scratch, section, packet, offset, size)?;
+            Ok((Some(head), size))
+        }
+        Front::Other { size } => {
+            read_other(source, scratch, section, offset, size)?;
+            Ok((None, size))
+        }
+    }
+}
+
+// Reads a section header from the byte after its length on, and begins the section: how many bytes the block has.
+fn read_section<S: Source>(
     source: &mut S,
     scratch: &mut [u8],
     section: &mut Section,
@@ -40,8 +79,8 @@ pub fn read_section<S: Source>(
     Ok(size)
 }
 
-/// Reads an interface description of this length from the byte after it on, and adds the interface to its section.
-pub fn read_interface<S: Source>(
+// Reads an interface description of this length from the byte after it on, and adds the interface to its section.
+fn read_interface<S: Source>(
     source: &mut S,
     scratch: &mut [u8],
     section: &mut Section,
@@ -68,8 +107,8 @@ pub fn read_interface<S: Source>(
     Ok(())
 }
 
-/// Reads an enhanced packet block of this length from the byte after it on. The captured bytes are put into the buffer `packet`.
-pub fn read_packet<S: Source>(
+// Reads an enhanced packet block of this length from the byte after it on. The captured bytes are put into the buffer `packet`.
+fn read_packet<S: Source>(
     source: &mut S,
     scratch: &mut [u8],
     section: &Section,
@@ -98,8 +137,8 @@ pub fn read_packet<S: Source>(
     Ok(head)
 }
 
-/// Passes over a block of this length from the byte after it on.
-pub fn read_other<S: Source>(
+// Passes over a block of this length from the byte after it on.
+fn read_other<S: Source>(
     source: &mut S,
     scratch: &mut [u8],
     section: &Section,

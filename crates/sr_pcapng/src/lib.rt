@@ -11,6 +11,7 @@ mod endian;
 mod front;
 mod interface;
 mod ng_next;
+mod ng_reader;
 
 mod option_head;
 mod options;
@@ -20,4 +21,5 @@ mod reading;
 mod section;
 
 pub use ng_next::NgNext;
+pub use ng_reader::NgReader;
 

@@ -1,4 +1,4 @@
-ghost use Rattle.std.specs.Prelude.{◌≡◌, ◌≢◌, ◌+◌, ◌<◌, ◌≤◌, ◌++◌, ◌∷◌, [], length, Err, Some, None, IfOk, IsOk};
+ghost use Rattle.std.specs.Prelude.{◌≡◌, ◌≢◌, ◌+◌, ◌<◌, ◌≤◌, ◌++◌, ◌∷◌, [], length, Err, Some, None, IfOk, IsOk, is_some};
 ghost use Rattle.sr_pcapng.specs.Front.{endian_of, front_of, front_in, front_sized, header_of, header_in, packet_of, packet_sized, is_bad, padded, HasSize, HasRoom};
 ghost use Rattle.sr_pcapng.specs.declared.ng_next.NgNext.TheVariants.{ReadFault};
 
@@ -19,8 +19,8 @@ const MAGIC: u32 = 0x1a2b_3c4d;
 // The most interfaces of a section.
 const MOST_INTERFACES: usize = 1_024;
 
-// The most captured bytes of a packet.
-const MOST_CAPTURED: u32 = 262_144;
+/// The most captured bytes of a packet.
+pub const MOST_CAPTURED: u32 = 262_144;
 
 /// The section that is read: the byte order of its numbers, and its interfaces. None has begun before the first section header.
 #[derive(Debug, Drop)]
@@ -56,6 +56,13 @@ impl Section {
         ensures { result ≡ endian_of self.now }
     {
         self.endian.unwrap_or(Endian::Big)
+    }
+
+    /// Whether a section has begun.
+    pub fn has_begun(&self) -> bool
+        ensures { result ≡ is_some self.now.endian }
+    {
+        self.endian.is_some()
     }
 
     /// Begins another section, which has no interfaces.
