@@ -6,11 +6,11 @@ use sr_io::{FileShelf, OpenGate, ReadSource, WriteSink};
 use sr_run::{Status, run};
 use std::alloc::Global;
 use std::env;
-use std::io::{self, BufReader, BufWriter, ErrorKind};
+use std::io::{self, BufWriter, ErrorKind};
 use std::process::ExitCode;
 use std::rt::Env;
 
-// How many bytes are read and written at a time.
+// How many bytes are written at a time. Those that are read go through a window of the reading crate's own.
 const BLOCK: usize = 262_144;
 
 // The words after the program's name.
@@ -34,11 +34,10 @@ fn without_words(error: &io::Error) -> Status {
 fn main(rt: HostRuntime) -> ExitCode {
     let alloc = rt.alloc();
     let words = read_words(&rt);
-    let reader = BufReader::with_capacity(alloc, BLOCK, rt.stdin());
     let writer = BufWriter::with_capacity(alloc, BLOCK, rt.stdout());
-    let status = match (words, reader, writer) {
-        (Ok(words), Ok(reader), Ok(writer)) => {
-            let mut source = ReadSource::new(reader);
+    let status = match (words, writer) {
+        (Ok(words), Ok(writer)) => {
+            let mut source = ReadSource::new(rt.stdin());
             let mut shelf = FileShelf::new(&rt);
             let mut sink = WriteSink::new(writer);
             run(
@@ -51,7 +50,7 @@ fn main(rt: HostRuntime) -> ExitCode {
                 &OpenGate,
             )
         }
-        (Err(error), _, _) => without_words(&error),
+        (Err(error), _) => without_words(&error),
         _ => Status::Memory,
     };
     let mut errors = WriteSink::new(rt.stderr());

@@ -1,8 +1,6 @@
-ghost use Rattle.std.specs.Prelude.{◌≡◌, ◌≤◌};
+ghost use Rattle.std.specs.Prelude.{◌≤◌};
 ghost use Rattle.sr_gen.specs.Capture.{most_packets, capture_of, records_from};
-ghost use Rattle.sr_io.specs.Faults.{Rose};
-ghost use Rattle.sr_io.specs.Sink.{Puts};
-ghost use Rattle.sr_io.specs.declared.sink.Put.TheVariants.{Failed};
+ghost use Rattle.sr_io.specs.Sink.{Writes};
 
 use crate::connections::Connections;
 use crate::record::record;
@@ -19,9 +17,7 @@ const HEADER: [u8; 24] = [
 pub fn make<K: Sink>(number: u64, packets: u32, sink: &mut K) -> Put
     requires some { 1 ≤ packets }
     requires few { packets ≤ most_packets }
-    ensures bytes { Puts result (K.taken sink.old) (K.taken sink.new) (capture_of number packets) }
-    ensures count { K.faults sink.old ≤ K.faults sink.new }
-    ensures failed { result ≡ Failed → Rose (K.faults sink.old) (K.faults sink.new) }
+    ensures { Writes result (K.known sink.old) (K.known sink.new) (capture_of number packets) }
 {
     match sink.write(&HEADER) {
         Put::All => write_records(number, packets, sink),
@@ -32,9 +28,7 @@ pub fn make<K: Sink>(number: u64, packets: u32, sink: &mut K) -> Put
 // Writes the packets' records.
 fn write_records<K: Sink>(number: u64, packets: u32, sink: &mut K) -> Put
     requires { packets ≤ most_packets }
-    ensures bytes { Puts result (K.taken sink.old) (K.taken sink.new) (records_from number 0 packets) }
-    ensures count { K.faults sink.old ≤ K.faults sink.new }
-    ensures failed { result ≡ Failed → Rose (K.faults sink.old) (K.faults sink.new) }
+    ensures { Writes result (K.known sink.old) (K.known sink.new) (records_from number 0 packets) }
 {
     let mut connections = Connections::new(number);
     for t in 0..packets {

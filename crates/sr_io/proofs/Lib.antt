@@ -1,3 +1,6 @@
 pub mod Adding
+pub mod Counting
 mod Kept
+pub mod Reading
+pub mod Windows
 pub mod Writing

@@ -10,3 +10,4 @@ pub mod Source
 pub mod SureShelf
 pub mod SureSink
 pub mod SureSource
+pub mod Window

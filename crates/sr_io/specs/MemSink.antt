@@ -1,6 +1,7 @@
 -- A sink in memory, some calls of which are to fail.
-use Rattle.std.specs.Prelude.{ℕ, ◌-◌, ◌/◌, min, nat_le, List, ◌++◌, length, take, if◌then◌else◌}
+use Rattle.std.specs.Prelude.{ℕ, ◌-◌, ◌/◌, min, nat_le, List, ◌++◌, length, take, Some, if◌then◌else◌}
 use Rattle.sr_io.specs.Calls.{CallsView, fails_next, after_call, after_fault}
+use Rattle.sr_io.specs.Sink.{SinkKnown}
 use Rattle.sr_io.specs.declared.sink.Put.{Put}
 use Rattle.sr_io.specs.declared.sink.Put.TheVariants.{All, Failed}
 
@@ -9,6 +10,10 @@ pub record MemSinkView : Type 0 where
   pub bytes : List ℕ
   pub room : ℕ
   pub calls : CallsView
+
+-- what it tells of itself
+abbrev pub known_of : MemSinkView → SinkKnown
+known_of s = record { taken = Some s.bytes; faults = s.calls.faults }
 
 -- a write that is to fail fails, and so does one of more bytes than the room that is left
 abbrev pub write_of : MemSinkView → List ℕ → Put

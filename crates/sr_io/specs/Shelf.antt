@@ -1,7 +1,13 @@
--- What a fetch from a shelf gives.
+-- What is known of a shelf, and what a fetch from it gives.
 use Rattle.std.specs.Prelude.{◌≡◌, ℕ, ◌<◌, ◌≤◌, List, length, Option, Some, None, Result, Ok, Err}
 use Rattle.sr_io.specs.declared.shelf.FetchRefusal.{FetchRefusal}
 use Rattle.sr_io.specs.declared.shelf.FetchRefusal.TheVariants.{TooLong, Failed, Memory}
+
+-- The text of each name, where the shelf tells them (a name may have none), and how often it failed; the count stands still at the end of 64
+-- bits.
+pub record ShelfKnown : Type 0 where
+  pub texts : Option (List ℕ → Option (List ℕ))
+  pub faults : ℕ
 
 -- a refusal of a text that is there: too long exactly where it has more bytes than the limit
 abbrev pub Refuses : FetchRefusal → List ℕ → ℕ → Type 0

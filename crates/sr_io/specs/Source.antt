@@ -1,7 +1,12 @@
--- What a read of a source does to the bytes that are left.
+-- What is known of a source, and what a read does to the bytes that are left.
 use Rattle.std.specs.Prelude.{◌≡◌, ℕ, ◌≤◌, List, [], length, take, drop, Option, Some}
 use Rattle.sr_io.specs.declared.source.Got.{Got}
 use Rattle.sr_io.specs.declared.source.Got.TheVariants.{Bytes, End, Failed}
+
+-- the bytes that are left, where the source tells them, and how often it failed; the count stands still at the end of 64 bits
+pub record SourceKnown : Type 0 where
+  pub left : Option (List ℕ)
+  pub faults : ℕ
 
 -- as many bytes as a buffer of this size can take, and at least one
 abbrev pub IsWithin : Got → ℕ → Type 0

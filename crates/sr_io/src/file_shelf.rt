@@ -32,9 +32,7 @@ fn read_file<R: Files>(files: &R, alloc: Global, name: &str, limit: usize) -> io
 }
 
 impl<'a, R: Files> Shelf for FileShelf<'a, R> {
-    ghost texts = { λ _. None };
-
-    ghost faults = { λ s. s.faults };
+    ghost known = { λ s. record { texts = None; faults = s.faults } };
 
     fn fetch(&mut self, alloc: Global, name: &str, limit: usize) -> Result<Vec<u8>, FetchRefusal> {
         match read_file(self.files, alloc, name, limit) {

@@ -1,5 +1,5 @@
 ghost use Rattle.std.specs.Prelude.{◌≡◌, ℕ, ◌≤◌, List, Option, Some, map, string_bytes, option_map};
-ghost use Rattle.sr_io.specs.Faults.{Rose};
+ghost use Rattle.sr_io.specs.Faults.{Counts};
 ghost use Rattle.sr_io.specs.MemShelf.{text_of, mem_fetched_of, after_fetch};
 ghost use Rattle.sr_io.specs.Shelf.{Fetches, FetchFailed};
 ghost use Rattle.sr_io.specs.SureShelf.{Gives};
@@ -49,14 +49,11 @@ fn text_on<'a>(files: &'a [(String, Vec<u8>)], name: &str) -> Option<&'a [u8]>
 }
 
 impl Shelf for MemShelf {
-    ghost texts = { λ s. Some (text_of s.files) };
-
-    ghost faults = { λ s. s.calls.faults };
+    ghost known = { λ s. record { texts = Some (text_of s.files); faults = s.calls.faults } };
 
     fn fetch(&mut self, alloc: Global, name: &str, limit: usize) -> Result<Vec<u8>, FetchRefusal>
         ensures text { Fetches (λ v. v.items) result (text_of self.old.files name.now) limit }
-        ensures count { self.old.calls.faults ≤ self.new.calls.faults }
-        ensures failed { FetchFailed result → Rose self.old.calls.faults self.new.calls.faults }
+        ensures faults { Counts (FetchFailed result) self.old.calls.faults self.new.calls.faults }
         ensures answer { Gives (λ v. v.items) result (mem_fetched_of self.old name.now limit) }
         ensures after { self.new ≡ after_fetch self.old result }
     {

@@ -1,7 +1,6 @@
 ghost use Rattle.std.specs.Prelude.{◌≡◌, ◌≤◌, [], Some, IfOk};
-ghost use Rattle.sr_io.specs.Faults.{Rose};
-ghost use Rattle.sr_io.specs.MemSink.{write_of, after_mem_write, flush_of, after_flush};
-ghost use Rattle.sr_io.specs.Sink.{Puts};
+ghost use Rattle.sr_io.specs.MemSink.{known_of, write_of, after_mem_write, flush_of, after_flush};
+ghost use Rattle.sr_io.specs.Sink.{Writes};
 ghost use Rattle.sr_io.specs.declared.sink.Put.TheVariants.{Failed};
 
 use crate::bounded_bytes::BoundedBytes;
@@ -44,14 +43,10 @@ impl MemSink {
 }
 
 impl Sink for MemSink {
-    ghost taken = { λ s. Some s.bytes };
-
-    ghost faults = { λ s. s.calls.faults };
+    ghost known = { known_of };
 
     fn write(&mut self, bytes: &[u8]) -> Put
-        ensures bytes { Puts result (Some self.old.bytes) (Some self.new.bytes) bytes.now }
-        ensures count { self.old.calls.faults ≤ self.new.calls.faults }
-        ensures failed { result ≡ Failed → Rose self.old.calls.faults self.new.calls.faults }
+        ensures written { Writes result (known_of self.old) (known_of self.new) bytes.now }
         ensures answer { result ≡ write_of self.old bytes.now }
         ensures after { self.new ≡ after_mem_write self.old bytes.now result }
     {
@@ -69,9 +64,7 @@ impl Sink for MemSink {
     }
 
     fn flush(&mut self) -> Put
-        ensures bytes { Puts result (Some self.old.bytes) (Some self.new.bytes) [] }
-        ensures count { self.old.calls.faults ≤ self.new.calls.faults }
-        ensures failed { result ≡ Failed → Rose self.old.calls.faults self.new.calls.faults }
+        ensures written { Writes result (known_of self.old) (known_of self.new) [] }
         ensures answer { result ≡ flush_of self.old }
         ensures after { self.new ≡ after_flush self.old result }
     {

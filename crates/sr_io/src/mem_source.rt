@@ -1,5 +1,5 @@
 ghost use Rattle.std.specs.Prelude.{◌≡◌, ℕ, ◌≤◌, ◌<◌, ◌++◌, List, length, take, drop, Option, Some};
-ghost use Rattle.sr_io.specs.Faults.{Rose};
+ghost use Rattle.sr_io.specs.Faults.{Counts};
 ghost use Rattle.sr_io.specs.MemSource.{mem_got_of, after_mem_read};
 ghost use Rattle.sr_io.specs.Source.{IsWithin, Takes};
 ghost use Rattle.sr_io.specs.SureSource.{count_of};
@@ -38,16 +38,13 @@ impl MemSource {
 }
 
 impl Source for MemSource {
-    ghost left = { λ s. Some s.source.left };
-
-    ghost faults = { λ s. s.calls.faults };
+    ghost known = { λ s. record { left = Some s.source.left; faults = s.calls.faults } };
 
     fn read(&mut self, into: &mut [u8]) -> Got
         requires { 0 < length into.old }
         ensures within { IsWithin result (length into.new) }
         ensures bytes { Takes result self.old.source.left into.new (Some self.new.source.left) }
-        ensures count { self.old.calls.faults ≤ self.new.calls.faults }
-        ensures failed { result ≡ Failed → Rose self.old.calls.faults self.new.calls.faults }
+        ensures faults { Counts (result ≡ Failed) self.old.calls.faults self.new.calls.faults }
         ensures answer { result ≡ mem_got_of self.old (length into.old) }
         ensures after { self.new ≡ after_mem_read self.old result }
         ensures buffer { into.new ≡ take (count_of result) self.old.source.left ++ drop (count_of result) into.old }

@@ -2,7 +2,7 @@ ghost use Rattle.std.specs.Prelude.{◌≡◌, ◌<◌, ◌≤◌, length, None}
 ghost use Rattle.std.specs.Option.{ForSome};
 ghost use Rattle.std.specs.Io.{ReadsAtMost};
 ghost use Rattle.std.specs.Io.KnownBytes.{ReadConsumes};
-ghost use Rattle.sr_io.specs.Faults.{Rose};
+ghost use Rattle.sr_io.specs.Faults.{Counts};
 ghost use Rattle.sr_io.specs.Source.{IsWithin, Takes};
 ghost use Rattle.sr_io.specs.declared.source.Got.TheVariants.{Failed};
 
@@ -48,15 +48,12 @@ fn read_retried<R: Read>(reader: &mut R, into: &mut [u8]) -> io::Result<usize>
 }
 
 impl<R: Read> Source for ReadSource<R> {
-    ghost left = { λ _. None };
-
-    ghost faults = { λ s. s.faults };
+    ghost known = { λ s. record { left = None; faults = s.faults } };
 
     fn read(&mut self, into: &mut [u8]) -> Got
         requires { 0 < length into.old }
         ensures within { IsWithin result (length into.new) }
-        ensures count { self.old.faults ≤ self.new.faults }
-        ensures failed { result ≡ Failed → Rose self.old.faults self.new.faults }
+        ensures faults { Counts (result ≡ Failed) self.old.faults self.new.faults }
         ensures reader { ForSome (R.remaining self.old.reader) (λ xs. Takes result xs into.new (R.remaining self.new.reader)) }
     {
         match read_retried(&mut self.reader, into) {

@@ -1,7 +1,7 @@
-ghost use Rattle.std.specs.Prelude.{◌≡◌, ℕ, ◌≤◌, List, [], Option};
-ghost use Rattle.sr_io.specs.Faults.{Rose};
-ghost use Rattle.sr_io.specs.Sink.{Puts};
-ghost use Rattle.sr_io.specs.declared.sink.Put.TheVariants.{Failed};
+ghost use Rattle.std.specs.Prelude.{◌≡◌, []};
+ghost use Rattle.sr_io.specs.Sink.{SinkKnown, Writes, put_of};
+
+use crate::WriteFault;
 
 /// What a write or a flush answers.
 #[derive(Clone, Copy, Debug, PartialEq, Eq)]
@@ -12,23 +12,28 @@ pub enum Put {
     Failed,
 }
 
+impl Put {
+    /// The answer as a result, for `?`.
+    pub fn ok(self) -> Result<(), WriteFault>
+        ensures { put_of result ≡ self }
+    {
+        match self {
+            Put::All => Ok(()),
+            Put::Failed => Err(WriteFault),
+        }
+    }
+}
+
 /// Where printed bytes go.
 pub trait Sink {
-    /// The bytes taken so far, where the sink tells them.
-    ghost taken: { Self → Option (List ℕ) };
-
-    /// How often the sink failed; the count stands still at the end of 64 bits.
-    ghost faults: { Self → ℕ };
+    /// The bytes taken so far, where the sink tells them, and how often it failed.
+    ghost known: { Self → SinkKnown };
 
     /// Takes all the bytes, or fails after a prefix of them.
     fn write(&mut self, bytes: &[u8]) -> Put
-        ensures bytes { Puts result (taken self.old) (taken self.new) bytes.now }
-        ensures count { faults self.old ≤ faults self.new }
-        ensures failed { result ≡ Failed → Rose (faults self.old) (faults self.new) };
+        ensures { Writes result (known self.old) (known self.new) bytes.now };
 
     /// Sends on what was taken. It takes nothing.
     fn flush(&mut self) -> Put
-        ensures bytes { Puts result (taken self.old) (taken self.new) [] }
-        ensures count { faults self.old ≤ faults self.new }
-        ensures failed { result ≡ Failed → Rose (faults self.old) (faults self.new) };
+        ensures { Writes result (known self.old) (known self.new) [] };
 }

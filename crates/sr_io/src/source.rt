@@ -1,7 +1,7 @@
-ghost use Rattle.std.specs.Prelude.{◌≡◌, ℕ, ◌<◌, ◌≤◌, List, length, Option};
+ghost use Rattle.std.specs.Prelude.{◌≡◌, ◌<◌, length};
 ghost use Rattle.std.specs.Option.{ForSome};
-ghost use Rattle.sr_io.specs.Faults.{Rose};
-ghost use Rattle.sr_io.specs.Source.{IsWithin, Takes};
+ghost use Rattle.sr_io.specs.Faults.{Counts};
+ghost use Rattle.sr_io.specs.Source.{SourceKnown, IsWithin, Takes};
 ghost use Rattle.sr_io.specs.declared.source.Got.TheVariants.{Failed};
 
 /// What a read gives.
@@ -17,17 +17,13 @@ pub enum Got {
 
 /// Bytes that come from outside, as a capture or a log, in pieces of the source's choice.
 pub trait Source {
-    /// The bytes that are left, where the source tells them.
-    ghost left: { Self → Option (List ℕ) };
-
-    /// How often the source failed; the count stands still at the end of 64 bits.
-    ghost faults: { Self → ℕ };
+    /// The bytes that are left, where the source tells them, and how often it failed.
+    ghost known: { Self → SourceKnown };
 
     /// Reads some bytes, at least one and no more than the buffer holds.
     fn read(&mut self, into: &mut [u8]) -> Got
         requires { 0 < length into.old }
         ensures within { IsWithin result (length into.new) }
-        ensures bytes { ForSome (left self.old) (λ xs. Takes result xs into.new (left self.new)) }
-        ensures count { faults self.old ≤ faults self.new }
-        ensures failed { result ≡ Failed → Rose (faults self.old) (faults self.new) };
+        ensures bytes { ForSome (known self.old).left (λ xs. Takes result xs into.new (known self.new).left) }
+        ensures faults { Counts (result ≡ Failed) (known self.old).faults (known self.new).faults };
 }

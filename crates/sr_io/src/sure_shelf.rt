@@ -31,9 +31,7 @@ impl SureShelf {
 }
 
 impl Shelf for SureShelf {
-    ghost texts = { λ s. Some (λ _. Some s) };
-
-    ghost faults = { λ s. 0 };
+    ghost known = { λ s. record { texts = Some (λ _. Some s); faults = 0 } };
 
     fn fetch(&mut self, alloc: Global, _name: &str, limit: usize) -> Result<Vec<u8>, FetchRefusal>
         ensures text { Fetches (λ v. v.items) result (Some self.old) limit }

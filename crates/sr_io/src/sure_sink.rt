@@ -1,6 +1,6 @@
 ghost use Rattle.std.specs.Prelude.{◌≡◌, [], false, IfOk};
 ghost use Rattle.sr_io.specs.Sink.{Adds};
-ghost use Rattle.sr_io.specs.SureSink.{told_of, after_write};
+ghost use Rattle.sr_io.specs.SureSink.{sure_known, told_of, after_write};
 ghost use Rattle.sr_io.specs.declared.sink.Put.TheVariants.{All};
 
 use crate::bounded_bytes::BoundedBytes;
@@ -41,9 +41,7 @@ impl SureSink {
 }
 
 impl Sink for SureSink {
-    ghost taken = { told_of };
-
-    ghost faults = { λ s. 0 };
+    ghost known = { sure_known };
 
     fn write(&mut self, bytes: &[u8]) -> Put
         ensures bytes { Adds (told_of self.old) (told_of self.new) bytes.now }

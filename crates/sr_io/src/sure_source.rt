@@ -41,9 +41,7 @@ impl SureSource {
 }
 
 impl Source for SureSource {
-    ghost left = { λ s. Some s.left };
-
-    ghost faults = { λ s. 0 };
+    ghost known = { λ s. record { left = Some s.left; faults = 0 } };
 
     fn read(&mut self, into: &mut [u8]) -> Got
         requires { 0 < length into.old }

@@ -1,9 +1,9 @@
 //! The law of what never fails: over it no call answers a fault. It is proved from what the traits say alone, by the count of faults.
-ghost use Rattle.std.specs.Prelude.{◌≡◌, ◌≢◌, ◌<◌, length, Some};
+ghost use Rattle.std.specs.Prelude.{◌≡◌, ◌≢◌, ◌<◌, length, [], Some};
 ghost use Rattle.std.specs.Option.{ForSome};
-ghost use Rattle.sr_io.specs.Faults.{Rose};
+ghost use Rattle.sr_io.specs.Faults.{Counts};
 ghost use Rattle.sr_io.specs.Shelf.{Fetches, FetchFailed};
-ghost use Rattle.sr_io.specs.Sink.{Puts, Adds};
+ghost use Rattle.sr_io.specs.Sink.{Writes, Adds};
 ghost use Rattle.sr_io.specs.Source.{IsWithin, Takes};
 ghost use Rattle.sr_io.specs.SureSink.{told_of};
 
@@ -14,8 +14,8 @@ use std::alloc::Global;
 fn read_any<S: Source>(source: &mut S, into: &mut [u8]) -> Got
     requires { 0 < length into.old }
     ensures within { IsWithin result (length into.new) }
-    ensures bytes { ForSome (S.left source.old) (λ xs. Takes result xs into.new (S.left source.new)) }
-    ensures failed { result ≡ Got.Failed → Rose (S.faults source.old) (S.faults source.new) }
+    ensures bytes { ForSome (S.known source.old).left (λ xs. Takes result xs into.new (S.known source.new).left) }
+    ensures faults { Counts (result ≡ Got.Failed) (S.known source.old).faults (S.known source.new).faults }
 {
     source.read(into)
 }
@@ -27,23 +27,22 @@ fn fetch_any<F: Shelf>(
     name: &str,
     limit: usize,
 ) -> Result<Vec<u8>, FetchRefusal>
-    ensures text { ForSome (F.texts shelf.old) (λ told. Fetches (λ v. v.items) result (told name.now) limit) }
-    ensures failed { FetchFailed result → Rose (F.faults shelf.old) (F.faults shelf.new) }
+    ensures text { ForSome (F.known shelf.old).texts (λ texts. Fetches (λ v. v.items) result (texts name.now) limit) }
+    ensures faults { Counts (FetchFailed result) (F.known shelf.old).faults (F.known shelf.new).faults }
 {
     shelf.fetch(alloc, name, limit)
 }
 
 // One write to any sink.
 fn write_any<K: Sink>(sink: &mut K, bytes: &[u8]) -> Put
-    ensures bytes { Puts result (K.taken sink.old) (K.taken sink.new) bytes.now }
-    ensures failed { result ≡ Put.Failed → Rose (K.faults sink.old) (K.faults sink.new) }
+    ensures { Writes result (K.known sink.old) (K.known sink.new) bytes.now }
 {
     sink.write(bytes)
 }
 
 // One flush of any sink.
 fn flush_any<K: Sink>(sink: &mut K) -> Put
-    ensures { result ≡ Put.Failed → Rose (K.faults sink.old) (K.faults sink.new) }
+    ensures { Writes result (K.known sink.old) (K.known sink.new) [] }
 {
     sink.flush()
 }

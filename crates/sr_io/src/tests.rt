@@ -1,4 +1,6 @@
 //! Worked rows of the sources, shelves and sinks; each call that allocates succeeds here once.
+ghost use Rattle.std.specs.Prelude.{◌≡◌, ◌≤◌, length};
+
 use crate::*;
 use std::alloc::{AllocError, Global};
 use std::test::Fail;
@@ -157,4 +159,34 @@ fn file_shelf(rt: HostRuntime) {
     for (name, limit, want) in rows {
         assert_eq!(rt; fetch(&mut shelf, rt.alloc(), name, limit), want);
     }
+}
+
+// Uses so many bytes, or all that there are.
+fn pass_some(window: &mut Window, n: usize)
+    ensures room { window.new.room ≡ window.old.room }
+    ensures used { length window.new.used ≤ n }
+{
+    let n = n.min(window.unread().len());
+    window.pass(n);
+}
+
+#[test]
+fn window(rt: HostRuntime) -> Result<(), Fail> {
+    let bytes = Vec::from_slice(rt.alloc(), b"abcdefgh")?;
+    let fails = Vec::from_slice(rt.alloc(), &[2])?;
+    let mut source = MemSource::new(bytes, 3, fails);
+    let mut window = Window::new(rt.alloc(), 7)?;
+    assert_eq!(rt; window.fill(&mut source, 4), Err(ReadFault));
+    assert_eq!(rt; window.unread(), b"abc".as_slice());
+    assert!(rt; window.fill(&mut source, 4).is_ok());
+    assert_eq!(rt; window.unread(), b"abcdef".as_slice());
+    pass_some(&mut window, 5);
+    assert!(rt; window.fill(&mut source, 2).is_ok());
+    assert_eq!(rt; window.used(), b"abcde".as_slice());
+    assert_eq!(rt; window.unread(), b"fg".as_slice());
+    pass_some(&mut window, 1);
+    assert!(rt; window.fill(&mut source, 3).is_ok());
+    assert_eq!(rt; window.used(), b"f".as_slice());
+    assert_eq!(rt; window.unread(), b"gh".as_slice());
+    Ok(())
 }

@@ -1,6 +1,6 @@
 ghost use Rattle.std.specs.Prelude.{◌≡◌, ◌≤◌, None};
 ghost use Rattle.std.specs.Io.KnownBytes.{Appends, Keeps};
-ghost use Rattle.sr_io.specs.Faults.{Rose};
+ghost use Rattle.sr_io.specs.Faults.{Counts};
 ghost use Rattle.sr_io.specs.declared.sink.Put.TheVariants.{All, Failed};
 
 use crate::{Put, Sink};
@@ -23,13 +23,10 @@ impl<W: Write> WriteSink<W> {
 }
 
 impl<W: Write> Sink for WriteSink<W> {
-    ghost taken = { λ _. None };
-
-    ghost faults = { λ s. s.faults };
+    ghost known = { λ s. record { taken = None; faults = s.faults } };
 
     fn write(&mut self, bytes: &[u8]) -> Put
-        ensures count { self.old.faults ≤ self.new.faults }
-        ensures failed { result ≡ Failed → Rose self.old.faults self.new.faults }
+        ensures faults { Counts (result ≡ Failed) self.old.faults self.new.faults }
         ensures writer { result ≡ All → Appends (W.contents self.old.writer) (W.contents self.new.writer) bytes.now }
     {
         match self.writer.write_all(bytes) {
@@ -42,8 +39,7 @@ impl<W: Write> Sink for WriteSink<W> {
     }
 
     fn flush(&mut self) -> Put
-        ensures count { self.old.faults ≤ self.new.faults }
-        ensures failed { result ≡ Failed → Rose self.old.faults self.new.faults }
+        ensures faults { Counts (result ≡ Failed) self.old.faults self.new.faults }
         ensures writer { Keeps (W.contents self.old.writer) (W.contents self.new.writer) }
     {
         match self.writer.flush() {

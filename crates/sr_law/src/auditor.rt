@@ -1,9 +1,8 @@
-ghost use Rattle.std.specs.Prelude.{◌≡◌, ◌⊎◌, ◌+◌, ◌≤◌, None, Some, reverse, length, MatchResult};
+ghost use Rattle.std.specs.Prelude.{◌≡◌, ◌+◌, ◌≤◌, None, Some, reverse, length, MatchResult};
 ghost use Rattle.sr_base.specs.Limit.{limit_of};
 ghost use Rattle.sr_law.specs.Lawful.{IsLawful, broken, breach_at, first_broken, breach_of};
 ghost use Rattle.sr_law.specs.Retire.{endings_of};
 ghost use Rattle.sr_law.specs.Shaped.{IsShaped};
-ghost use Rattle.sr_law.specs.declared.check_refusal.CheckRefusal.TheVariants.{Memory};
 
 use crate::cause::meets_cause;
 use crate::newer::meets_newer;
@@ -14,7 +13,6 @@ use crate::retire::meets_retire;
 use crate::same::meets_same;
 use crate::server::meets_server;
 use crate::{CheckRefusal, Clause, Line, Setup};
-use std::alloc::Global;
 
 // The first clause that a line breaks, by the lines before it and the Ending lines of all.
 #[tactic(auto, unfolding(crate::specs::Lawful::broken))]
@@ -109,12 +107,4 @@ pub fn check_plain(setup: &Setup, lines: &[Line]) -> Result<(), CheckRefusal>
         Some(breach) => Err(breach),
         None => Ok(()),
     }
-}
-
-/// Judges a list of printed lines as `check_plain` does, or answers that there is no memory.
-pub fn check(alloc: Global, setup: &Setup, lines: &[Line]) -> Result<(), CheckRefusal>
-    requires { limit_of setup.now.shape (length setup.now.pools) setup.now.servers ≡ None }
-    ensures { MatchResult result (λ _. IsLawful setup.now lines.now) (λ refusal. (refusal ≡ Memory) ⊎ (breach_of setup.now lines.now ≡ Some refusal)) }
-{
-    check_plain(setup, lines)
 }

@@ -95,9 +95,9 @@ fn some_all_in_use(before: &[Line], versions: u8, vips: u8) -> bool
     some
 }
 
-// A line has its cause.
+/// A line has its cause.
 #[tactic(auto, unfolding(crate::specs::Cause::meets_cause))]
-pub(crate) fn meets_cause(setup: &Setup, before: &[Line], line: &Line) -> bool
+pub fn meets_cause(setup: &Setup, before: &[Line], line: &Line) -> bool
     requires shape { IsShaped setup.now.shape }
     requires vips { length setup.now.pools ≤ 16 }
     ensures { result ≡ meets_cause setup.now (reverse before.now) line.now }

@@ -28,9 +28,9 @@ fn takes_down_before(server: u32, tick: u64, line: &Line) -> bool
     takes_down(server, line) && line.out() < tick
 }
 
-// The controller did something else after it had taken this server down, both before this tick.
+/// The controller did something else after it had taken this server down, both before this tick.
 #[tactic(auto, using(crate::proofs::Newest::newest_more))]
-pub(crate) fn is_known_down(before: &[Line], server: u32, tick: u64) -> bool
+pub fn is_known_down(before: &[Line], server: u32, tick: u64) -> bool
     ensures { result ≡ is_known_down (reverse before.now) server tick }
 {
     let mut down = false;

@@ -53,8 +53,8 @@ pub(crate) fn last_version(before: &[Line], vip: u8, version: Version) -> Option
     last
 }
 
-// There is one, of this pool.
-pub(crate) fn has_pool(giving: Option<Giving>, pool: u64) -> bool
+/// There is one, of this pool.
+pub fn has_pool(giving: Option<Giving>, pool: u64) -> bool
     ensures { result ≡ has_pool giving pool }
 {
     match giving {

@@ -5,8 +5,8 @@ ghost use Rattle.sr_law.specs.Groups.{is_opening_give, after_gives, is_of_update
 use crate::givings::{has_pool, last_given};
 use crate::{Line, Pools, Setup};
 
-// The line gives this virtual address its first pool.
-fn is_opening_give(number: usize, line: &Line) -> bool
+/// The line gives this virtual address its first pool.
+pub fn is_opening_give(number: usize, line: &Line) -> bool
     ensures { result ≡ is_opening_give number line.now }
 {
     match *line {
@@ -26,8 +26,8 @@ fn is_opening_give(number: usize, line: &Line) -> bool
     }
 }
 
-// A line of an update.
-fn is_of_update(line: &Line) -> bool
+/// A line of an update.
+pub fn is_of_update(line: &Line) -> bool
     ensures { result ≡ is_of_update line.now }
 {
     match line {
@@ -105,8 +105,8 @@ fn is_over(last: Option<Line>) -> bool
     }
 }
 
-// An update goes on as it must.
-fn goes_on(last: Option<Line>, line: &Line) -> bool
+/// An update goes on as it must.
+pub fn goes_on(last: Option<Line>, line: &Line) -> bool
     ensures { result ≡ goes_on last line.now }
 {
     match *line {
@@ -143,8 +143,8 @@ fn any_given_past(before: &[Line], vip: u8, pool: u64) -> bool
         .any(|line| was_given_past(vip, pool, line))
 }
 
-// A pool that is given exists and comes after those before; the one that is switched to is the last given.
-fn names_next_pool(pools: &Pools, before: &[Line], line: &Line) -> bool
+/// A pool that is given exists and comes after those before; the one that is switched to is the last given.
+pub fn names_next_pool(pools: &Pools, before: &[Line], line: &Line) -> bool
     ensures { result ≡ names_next_pool pools.now (reverse before.now) line.now }
 {
     match *line {

@@ -62,7 +62,7 @@ mod taking;
 mod takings;
 mod verdict;
 
-pub use auditor::{check, check_plain};
+pub use auditor::check_plain;
 pub use check_refusal::CheckRefusal;
 pub use choice::Choice;
 pub use clause::Clause;
@@ -78,3 +78,19 @@ pub use setup::Setup;
 pub use sweep::Sweep;
 pub use taking::Taking;
 pub use verdict::{HeldBy, Verdict};
+
+// The plain bodies that an auditor with indexes asks.
+pub use cause::meets_cause;
+pub use downs::is_known_down;
+pub use givings::has_pool;
+pub use groups::{goes_on, is_of_update, is_opening_give, names_next_pool};
+pub use newer::last_switched;
+pub use number::meets_number;
+pub use openings::{opened_by, retires};
+pub use order::refuses_next;
+pub use packets::{same_packet, same_packets};
+pub use pairs::{all_answers_held, all_held_answered};
+pub use ranges::in_range;
+pub use retire::meets_retire;
+pub use rising::{after_last, is_in_time, share_tick, was_controlling, was_in_pipe};
+pub use takings::keeps_places;

@@ -19,9 +19,9 @@ fn switched_by(line: &Line, vip: u8, tick: u64) -> Option<u64>
     }
 }
 
-// The pool that a virtual address was last switched to before this tick.
+/// The pool that a virtual address was last switched to before this tick.
 #[tactic(auto, using(crate::proofs::Newest::newest_more))]
-fn last_switched(before: &[Line], vip: u8, tick: u64) -> Option<u64>
+pub fn last_switched(before: &[Line], vip: u8, tick: u64) -> Option<u64>
     ensures { result ≡ last_switched (reverse before.now) vip tick }
 {
     let mut last = None;

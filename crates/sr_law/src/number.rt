@@ -39,9 +39,9 @@ pub(crate) fn is_in_use(before: &[Line], vip: u8, version: u8) -> bool
     has_version(last_given(before, vip), version) || is_held_open(before, vip, version)
 }
 
-// A version that is given after the first lines is one of the shape and isn't in use.
+/// A version that is given after the first lines is one of the shape and isn't in use.
 #[tactic(auto, unfolding(crate::specs::Number::meets_number))]
-pub(crate) fn meets_number(setup: &Setup, before: &[Line], line: &Line) -> bool
+pub fn meets_number(setup: &Setup, before: &[Line], line: &Line) -> bool
     ensures { result ≡ meets_number setup.now (reverse before.now) line.now }
 {
     match *line {

@@ -23,8 +23,8 @@ fn opened(out: u64, verdict: Verdict) -> Option<Opening>
     }
 }
 
-// The opening that a line makes of a connection that isn't open.
-pub(crate) fn opened_by(line: &Line, c: Key) -> Option<Opening>
+/// The opening that a line makes of a connection that isn't open.
+pub fn opened_by(line: &Line, c: Key) -> Option<Opening>
     ensures { result ≡ opened_by line.now c }
 {
     match *line {
@@ -53,8 +53,8 @@ pub(crate) fn opened_by(line: &Line, c: Key) -> Option<Opening>
     }
 }
 
-// The line says that this connection is over.
-fn retires(line: &Line, c: Key) -> bool
+/// The line says that this connection is over.
+pub fn retires(line: &Line, c: Key) -> bool
     ensures { result ≡ retires line.now c }
 {
     match *line {

@@ -28,8 +28,8 @@ fn any_refused_past(before: &[Line], change: u32) -> bool
     before.iter().rev().any(|line| refused_past(change, line))
 }
 
-// Changes are refused in the script's order.
-fn refuses_next(before: &[Line], line: &Line) -> bool
+/// Changes are refused in the script's order.
+pub fn refuses_next(before: &[Line], line: &Line) -> bool
     ensures { result ≡ refuses_next (reverse before.now) line.now }
 {
     match *line {

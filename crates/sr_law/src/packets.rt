@@ -17,8 +17,8 @@ fn same_kind(a: Kind, b: Kind) -> bool
     }
 }
 
-// Two packets are one.
-fn same_packet(a: &Packet, b: &Packet) -> bool
+/// Two packets are one.
+pub fn same_packet(a: &Packet, b: &Packet) -> bool
     ensures { result ≡ same_packet a.now b.now }
 {
     a.number == b.number && a.key.same(b.key) && same_kind(a.kind, b.kind)
@@ -100,8 +100,8 @@ fn all_as_often(lines: &[Line], packets: &[Packet]) -> bool
         .all(|packet| is_as_often(lines, packets, packet))
 }
 
-// The packets that the lines tell of are these.
-pub(crate) fn same_packets(lines: &[Line], packets: &[Packet]) -> bool
+/// The packets that the lines tell of are these.
+pub fn same_packets(lines: &[Line], packets: &[Packet]) -> bool
     ensures { result ≡ same_packets (packets_of (reverse lines.now)) packets.now }
 {
     all_told_as_often(lines, packets) && all_as_often(lines, packets)

@@ -88,9 +88,9 @@ fn held_is_answered(all: &[Line], line: &Line, before: &[Line]) -> bool
     }
 }
 
-// Each held opener has its answer.
+/// Each held opener has its answer.
 #[tactic(auto, using(crate::proofs::Newest::newest_more))]
-fn all_held_answered(all: &[Line]) -> bool
+pub fn all_held_answered(all: &[Line]) -> bool
     ensures { result ≡ all_held_answered (reverse all.now) (reverse all.now) }
 {
     let mut every = true;
@@ -112,8 +112,8 @@ fn answer_is_held(all: &[Line], line: &Line) -> bool
     }
 }
 
-// Each answer is to an opener that was held.
-fn all_answers_held(all: &[Line]) -> bool
+/// Each answer is to an opener that was held.
+pub fn all_answers_held(all: &[Line]) -> bool
     ensures { result ≡ list_all (answer_is_held (reverse all.now)) (reverse all.now) }
 {
     all.iter().rev().all(|line| answer_is_held(all, line))

@@ -93,9 +93,9 @@ fn names_own_place(shape: &Shape, line: &Line) -> bool
     }
 }
 
-// Each number of a line is in its range.
+/// Each number of a line is in its range.
 #[tactic(auto, unfolding(crate::specs::Ranges::in_range))]
-pub(crate) fn in_range(setup: &Setup, line: &Line) -> bool
+pub fn in_range(setup: &Setup, line: &Line) -> bool
     requires buckets { 1 ≤ setup.now.shape.buckets }
     requires rows { 4 ≤ setup.now.shape.full_rows }
     ensures { result ≡ in_range setup.now line.now }

@@ -173,9 +173,9 @@ fn may_retire(setup: &Setup, all: &[Line], before: &[Line], c: Key, tick: u64) -
                 && is_quiet(before, c, 1, last_sweep(before))))
 }
 
-// A sweep is the next one, and a connection that is retired was open, and quiet. Any line of the whole list may tell of its end.
+/// A sweep is the next one, and a connection that is retired was open, and quiet. Any line of the whole list may tell of its end.
 #[tactic(auto, unfolding(crate::specs::Retire::meets_retire))]
-pub(crate) fn meets_retire(setup: &Setup, all: &[Line], before: &[Line], line: &Line) -> bool
+pub fn meets_retire(setup: &Setup, all: &[Line], before: &[Line], line: &Line) -> bool
     ensures { result ≡ meets_retire setup.now (endings_of (reverse all.now)) (reverse before.now) line.now }
 {
     match *line {

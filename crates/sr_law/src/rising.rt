@@ -4,8 +4,8 @@ ghost use Rattle.sr_law.specs.Rising.{after_last, has_two_ticks, is_in_time, sha
 
 use crate::Line;
 
-// A line comes after the one before it.
-fn after_last(before: &[Line], line: &Line) -> bool
+/// A line comes after the one before it.
+pub fn after_last(before: &[Line], line: &Line) -> bool
     ensures { result ≡ after_last (reverse before.now) line.now }
 {
     match before.iter().rev().next() {
@@ -25,8 +25,8 @@ fn has_two_ticks(line: &Line) -> bool
     }
 }
 
-// Ticks begin at 1, and the ticks of a line rise.
-fn is_in_time(line: &Line) -> bool
+/// Ticks begin at 1, and the ticks of a line rise.
+pub fn is_in_time(line: &Line) -> bool
     ensures { result ≡ is_in_time line.now }
 {
     1 <= line.start()
@@ -37,8 +37,8 @@ fn is_in_time(line: &Line) -> bool
         }
 }
 
-// Two lines have a tick in common.
-fn share_tick(a: &Line, b: &Line) -> bool
+/// Two lines have a tick in common.
+pub fn share_tick(a: &Line, b: &Line) -> bool
     ensures { result ≡ share_tick a.now b.now }
 {
     (a.out() == b.out() || a.out() == b.start()) || (a.start() == b.out() || a.start() == b.start())
@@ -51,8 +51,8 @@ fn shares_tick(before: &[Line], line: &Line) -> bool
     before.iter().rev().any(|earlier| share_tick(line, earlier))
 }
 
-// A packet's line that was out at this tick of its pipe or later.
-fn was_in_pipe(pipe: u8, tick: u64, line: &Line) -> bool
+/// A packet's line that was out at this tick of its pipe or later.
+pub fn was_in_pipe(pipe: u8, tick: u64, line: &Line) -> bool
     ensures { result ≡ was_in_pipe pipe tick line.now }
 {
     match *line {
@@ -71,8 +71,8 @@ fn any_in_pipe(before: &[Line], pipe: u8, tick: u64) -> bool
         .any(|line| was_in_pipe(pipe, tick, line))
 }
 
-// A controller's line that was out at this tick or later.
-fn was_controlling(tick: u64, line: &Line) -> bool
+/// A controller's line that was out at this tick or later.
+pub fn was_controlling(tick: u64, line: &Line) -> bool
     ensures { result ≡ was_controlling tick line.now }
 {
     line.is_controller() && tick <= line.out()

@@ -69,9 +69,9 @@ fn may_clear(key: Key, taking: Option<Taking>) -> bool
     }
 }
 
-// A place is reserved where nobody has it, and placed, once, and cleared by the key that has it.
+/// A place is reserved where nobody has it, and placed, once, and cleared by the key that has it.
 #[tactic(auto, unfolding(crate::specs::Taken::keeps_places))]
-pub(crate) fn keeps_places(before: &[Line], line: &Line) -> bool
+pub fn keeps_places(before: &[Line], line: &Line) -> bool
     ensures { result ≡ keeps_places (reverse before.now) line.now }
 {
     match *line {

@@ -3,8 +3,9 @@ use crate::fields::{number, word, words};
 use crate::lines::{is_edit, last_verdict, line};
 use crate::row::Row;
 use crate::row_texts::ROWS;
+use sr_audit::check;
 use sr_base::Layout;
-use sr_law::{CheckRefusal, Clause, Line, Setup, check, check_plain};
+use sr_law::{CheckRefusal, Clause, Line, Setup, check_plain};
 use std::alloc::Global;
 use std::test::Fail;
 

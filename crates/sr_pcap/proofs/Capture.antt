@@ -4,22 +4,22 @@ use Rattle.sr_pcap.specs.declared.format.Format.{Format}
 use Rattle.sr_pcap.specs.declared.next.Next.{Next}
 use Rattle.sr_pcap.specs.declared.next.Next.TheVariants.{Whole, End, Truncated, ReadFault, TooLong}
 use Rattle.sr_pcap.specs.Next.{next_at, size_at, frame_at, rest_at}
-use Rattle.sr_pcap.specs.Reader.{TakesRecord}
+use Rattle.sr_pcap.specs.Reader.{ReaderView, TakesRecord}
 use Rattle.sr_pcap.specs.Records.{ended, with_frame, records_from}
 
 -- a whole record was read
-pub records_go_on : (format : Format) (room offset ms at : ℕ) (xs bytes : List ℕ) (left : Option (List ℕ)) → TakesRecord ms at format offset xs bytes left
+pub records_go_on : (format : Format) (room offset ms at : ℕ) (xs : List ℕ) (reader : ReaderView) (left : Option (List ℕ)) → TakesRecord ms at format offset xs reader left
     → records_from format (suc room) offset xs
-    ≡ with_frame (record { ms = ms; bytes = bytes }) (records_from format room (offset + (16 + length bytes)) (rest_at format xs))
+    ≡ with_frame (record { ms = ms; bytes = reader.bytes }) (records_from format room (offset + (16 + length reader.bytes)) (rest_at format xs))
 unfolding records_from
-records_go_on format room offset ms at xs bytes left read =
+records_go_on format room offset ms at xs reader left read =
     let e = read.next in
     let step : records_from format (suc room) offset xs
     ≡ with_frame (record { ms = ms; bytes = frame_at format xs }) (records_from format room (offset + (16 + size_at format xs)) (rest_at format xs)) =
     rw (e, records_from) refl in
     step
     ∙ ap (λ (ys : List ℕ). with_frame (record { ms = ms; bytes = ys }) (records_from format room (offset + (16 + size_at format xs)) (rest_at format xs))) (sym read.frame)
-    ∙ ap (λ (n : ℕ). with_frame (record { ms = ms; bytes = bytes }) (records_from format room (offset + (16 + n)) (rest_at format xs))) (sym read.size)
+    ∙ ap (λ (n : ℕ). with_frame (record { ms = ms; bytes = reader.bytes }) (records_from format room (offset + (16 + n)) (rest_at format xs))) (sym read.size)
 
 -- no more room is left for records
 pub records_full : (format : Format) (offset : ℕ) (bytes : List ℕ) → records_from format 0 offset bytes ≡ ended (next_at format offset bytes)

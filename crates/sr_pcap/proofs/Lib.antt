@@ -1,3 +1,2 @@
 pub mod Capture
-pub mod Filling
 pub mod Reading

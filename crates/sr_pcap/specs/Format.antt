@@ -1,6 +1,6 @@
 -- The headers of a classic capture, by their fields: the capture's (magic, major, minor, zone, significant figures, snap length, link
 -- type) and a record's (seconds, fraction, captured length, original length).
-use Rattle.std.specs.Prelude.{◌≡◌, ◌⊎◌, ℕ, ◌+◌, ◌*◌, ◌/◌, ◌%◌, ◌^◌, ◌==◌, ◌||◌, not, nat_lt, if◌then◌else◌, List, length, take, drop, Option, Some, None, Result, Ok, Err}
+use Rattle.std.specs.Prelude.{◌≡◌, ◌⊎◌, ℕ, ◌+◌, ◌*◌, ◌/◌, ◌<◌, ◌≤◌, ◌%◌, ◌^◌, ◌==◌, ◌||◌, not, nat_lt, if◌then◌else◌, List, length, take, drop, Option, Some, None, Result, Ok, Err}
 use Rattle.sr_pcap.specs.declared.begin_refusal.BeginRefusal.{BeginRefusal}
 use Rattle.sr_pcap.specs.declared.begin_refusal.BeginRefusal.TheVariants.{Truncated, ReadFault, Magic, Major, LinkType, Memory}
 use Rattle.sr_pcap.specs.declared.endian.Endian.{Endian}
@@ -53,9 +53,23 @@ IsJudged (Err Major) = Unit {0}
 IsJudged (Err LinkType) = Unit {0}
 IsJudged (Err Memory) = ⊥
 
+-- what judging so many bytes comes to
+abbrev pub IsJudgedIn : Result Format BeginRefusal → ℕ → Type 0
+IsJudgedIn (Ok format) size = (24 ≤ size) × ((format.link ≡ 1) ⊎ (format.link ≡ 101))
+IsJudgedIn (Err (Truncated offset)) size = (offset ≡ 0) × (size < 24)
+IsJudgedIn (Err ReadFault) size = ⊥
+IsJudgedIn (Err Magic) size = 24 ≤ size
+IsJudgedIn (Err Major) size = 24 ≤ size
+IsJudgedIn (Err LinkType) size = 24 ≤ size
+IsJudgedIn (Err Memory) size = ⊥
+
 -- the format of a capture, which begins with a header
 unfoldable pub header_of : List ℕ → Result Format BeginRefusal
 header_of bytes = if nat_lt (length bytes) 24 then Err (Truncated 0) else format_of (take 24 bytes)
+
+-- the most captured bytes of a record
+abbrev pub most_captured : ℕ
+most_captured = 262144
 
 -- when a record was captured, in whole milliseconds
 abbrev pub milliseconds : Format → List ℕ → ℕ

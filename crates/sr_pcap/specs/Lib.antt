@@ -1,8 +1,7 @@
 pub mod Endian
-pub mod Filled
 pub mod Format
 pub mod Next
 pub mod Reader
-pub mod Record
+pub mod RecordHeader
 pub mod Records
 pub mod Resolution

@@ -3,8 +3,7 @@ use Rattle.std.specs.Prelude.{ℕ, ◌+◌, ◌==◌, nat_lt, if◌then◌else�
 use Rattle.sr_pcap.specs.declared.format.Format.{Format}
 use Rattle.sr_pcap.specs.declared.next.Next.{Next}
 use Rattle.sr_pcap.specs.declared.next.Next.TheVariants.{Whole, End, Truncated, TooLong}
-use Rattle.sr_pcap.specs.Format.{milliseconds, captured_length}
-use Rattle.sr_pcap.specs.Record.{most_captured}
+use Rattle.sr_pcap.specs.Format.{milliseconds, captured_length, most_captured}
 
 -- what comes where the bytes begin with the header of a record with this time and this many captured bytes
 unfoldable pub next_sized : ℕ → ℕ → ℕ → List ℕ → Next

@@ -1,6 +1,7 @@
 ghost use Rattle.std.specs.Prelude.{◌≡◌};
-ghost use Rattle.sr_pcap.specs.declared.begin_refusal.BeginRefusal.TheVariants.{Memory};
+ghost use Rattle.sr_pcap.specs.declared.begin_refusal.BeginRefusal.TheVariants as begin;
 
+use sr_io::ReadFault;
 use std::alloc::AllocError;
 use thiserror::Error;
 
@@ -31,9 +32,17 @@ pub enum BeginRefusal {
 }
 
 impl From<AllocError> for BeginRefusal {
-    ghost from_gives = { λ _ e. e ≡ Memory };
+    ghost from_gives = { λ _ e. e ≡ begin.Memory };
 
     fn from(_: AllocError) -> BeginRefusal {
         BeginRefusal::Memory
+    }
+}
+
+impl From<ReadFault> for BeginRefusal {
+    ghost from_gives = { λ _ e. e ≡ begin.ReadFault };
+
+    fn from(_: ReadFault) -> BeginRefusal {
+        BeginRefusal::ReadFault
     }
 }

@@ -1,9 +1,14 @@
 ghost use Rattle.std.specs.Prelude.{◌≡◌, ◌≤◌, length};
-ghost use Rattle.sr_pcap.specs.Format.{IsJudged, magic_of, format_of, format_in, milliseconds, captured_length};
+ghost use Rattle.sr_pcap.specs.Format.{IsJudged, IsJudgedIn, magic_of, format_of, format_in, header_of, milliseconds, captured_length};
+ghost use Rattle.sr_pcap.specs.RecordHeader.{HeaderOf};
 
-use crate::BeginRefusal;
 use crate::endian::Endian;
+use crate::record_header::{MOST_CAPTURED, RECORD_HEADER, RecordHeader};
 use crate::resolution::Resolution;
+use crate::{BeginRefusal, Next};
+
+/// The bytes of a capture's header.
+pub const CAPTURE_HEADER: usize = 24;
 
 // The link types that are read.
 const ETHERNET: u32 = 1;
@@ -22,9 +27,21 @@ pub struct Format {
 }
 
 impl Format {
-    /// The format that the 24 bytes of a header spell. The error is the first check that fails.
+    /// The format of a capture that begins with these bytes. The error is the first check that fails.
+    #[tactic(auto, unfolding(crate::specs::Format::header_of))]
+    pub fn of_capture(bytes: &[u8]) -> Result<Format, BeginRefusal>
+        ensures format { result ≡ header_of bytes.now }
+        ensures judged { IsJudgedIn result (length bytes.now) }
+    {
+        if bytes.len() < CAPTURE_HEADER {
+            return Err(BeginRefusal::Truncated { offset: 0 });
+        }
+        Format::of_header(&bytes[..CAPTURE_HEADER])
+    }
+
+    // The format that the 24 bytes of a header spell.
     #[tactic(auto, unfolding(crate::specs::Format::format_of))]
-    pub fn of_header(header: &[u8]) -> Result<Format, BeginRefusal>
+    fn of_header(header: &[u8]) -> Result<Format, BeginRefusal>
         requires { 24 ≤ length header.now }
         ensures format { result ≡ format_of header.now }
         ensures judged { IsJudged result }
@@ -60,8 +77,29 @@ impl Format {
         })
     }
 
-    /// When a record with this header was captured, in whole milliseconds.
-    pub fn milliseconds(&self, header: &[u8]) -> u64
+    /// The header of the record that these bytes begin with, the first of which stands at this offset; or why no record does that isn't too long.
+    pub fn record_header(&self, offset: u64, bytes: &[u8]) -> Result<RecordHeader, Next>
+        ensures { HeaderOf result self.now offset bytes.now }
+    {
+        if bytes.is_empty() {
+            return Err(Next::End);
+        }
+        if bytes.len() < RECORD_HEADER {
+            return Err(Next::Truncated { offset });
+        }
+        let header = &bytes[..RECORD_HEADER];
+        let length = self.captured_length(header);
+        if length > MOST_CAPTURED {
+            return Err(Next::TooLong { offset, length });
+        }
+        Ok(RecordHeader {
+            ms: self.milliseconds(header),
+            size: length as usize,
+        })
+    }
+
+    // When a record with this header was captured, in whole milliseconds.
+    fn milliseconds(&self, header: &[u8]) -> u64
         requires { 16 ≤ length header.now }
         ensures { result ≡ milliseconds self.now header.now }
     {
@@ -70,8 +108,8 @@ impl Format {
         seconds * 1_000 + (fraction / self.resolution.per_millisecond()) as u64
     }
 
-    /// How many captured bytes a record with this header has.
-    pub fn captured_length(&self, header: &[u8]) -> u32
+    // How many captured bytes a record with this header has.
+    fn captured_length(&self, header: &[u8]) -> u32
         requires { 16 ≤ length header.now }
         ensures { result ≡ captured_length self.now header.now }
     {

@@ -7,11 +7,10 @@
 
 mod begin_refusal;
 mod endian;
-mod filled;
 mod format;
 mod next;
 mod reader;
-mod record;
+mod record_header;
 mod resolution;
 
 pub use begin_refusal::BeginRefusal;

@@ -1,3 +1,8 @@
+ghost use Rattle.std.specs.Prelude.{◌≡◌};
+ghost use Rattle.sr_pcap.specs.declared.next.Next.TheVariants as next;
+
+use sr_io::ReadFault;
+
 /// What a reader answers when it is asked for the next record.
 #[derive(Clone, Copy, Debug, PartialEq, Eq)]
 pub enum Next {
@@ -24,4 +29,12 @@ pub enum Next {
         /// How many captured bytes it says that it has.
         length: u32,
     },
+}
+
+impl From<ReadFault> for Next {
+    ghost from_gives = { λ _ e. e ≡ next.ReadFault };
+
+    fn from(_: ReadFault) -> Next {
+        Next::ReadFault
+    }
 }

@@ -1,63 +1,69 @@
-ghost use Rattle.std.specs.Prelude.{◌≡◌, ◌≢◌, ℕ, ◌<◌, ◌≤◌, ◌⊎◌, List, [], length, take, drop, Some, None, Err, IfOk};
+ghost use Rattle.std.specs.Prelude.{◌≡◌, ◌⊎◌, ℕ, ◌+◌, ◌≤◌, List, [], length, take, drop, None, Err, IfOk};
 ghost use Rattle.std.specs.Option.{ForSome};
-ghost use Rattle.sr_io.specs.Faults.{Rose};
-ghost use Rattle.sr_pcap.specs.Reader.{Steps, Answers, Begins, ended_by};
+ghost use Rattle.sr_io.specs.Faults.{Counts};
+ghost use Rattle.sr_io.specs.Window.{Pending, passed};
+ghost use Rattle.sr_pcap.specs.Reader.{Steps, Answers, Begins, Looks, Found, ended_by, with_record, with_window};
 ghost use Rattle.sr_pcap.specs.declared.begin_refusal.BeginRefusal.TheVariants as begin;
-ghost use Rattle.sr_pcap.specs.declared.next.Next.TheVariants.{ReadFault};
+ghost use Rattle.sr_pcap.specs.declared.next.Next.TheVariants.{Whole, ReadFault};
 
-use crate::filled::{Filled, fill};
-use crate::format::Format;
-use crate::record::{MOST_CAPTURED, Record};
+use crate::format::{CAPTURE_HEADER, Format};
+use crate::record_header::{RECORD_HEADER, RecordHeader};
 use crate::{BeginRefusal, Next};
-use sr_io::Source;
+use sr_io::{Source, Window};
 use std::alloc::Global;
 use std::marker::Model;
-use std::mem;
 
-// The bytes of a capture's header.
-const CAPTURE_HEADER: usize = 24;
+// How many bytes a reader has room for: two of the longest records, since the last one stays while the next is read.
+const ROOM: usize = 524_320;
 
-// The bytes of a record's header.
-const RECORD_HEADER: usize = 16;
-
-/// Reads a capture, a record at a time. The source is handed to each call, and must be the same one each time.
+/// Reads a capture, a record at a time. The source is handed to each call, and must be the same one each time. It is read ahead.
 #[derive(Debug, Drop)]
 pub struct Reader {
     format: Format,
     offset: u64,
-    last: Record,
-    spare: Record,
+    window: Window,
+    // How many captured bytes the last whole record has. They are the last ones that were used.
+    size: usize,
     ended: Option<Next>,
 }
 
 impl Model for Reader {
+    ghost use Rattle.std.specs.Prelude.{◌≡◌, ◌-◌, ◌≤◌, drop, length};
     ghost use Rattle.sr_pcap.specs.Reader.{ReaderView};
 
     ghost Value = { ReaderView };
 
-    ghost view = { λ r. record { format = r.format; offset = r.offset; bytes = r.last; ended = r.ended } };
+    ghost view = { λ r. record {
+      format = r.format;
+      offset = r.offset;
+      bytes = drop (length r.window.used - r.size) r.window.used;
+      window = r.window;
+      ended = r.ended;
+    } };
+
+    ghost invariant = { λ r. (r.size ≤ length r.window.used) × (length r.window.used ≤ 262160) × (r.window.room ≡ 524320) };
 }
 
 impl Reader {
-    /// Reads the 24 bytes of a capture's header, and then judges them. The room for a record is made first, and no call after this one
-    /// needs memory.
+    /// Reads the 24 bytes of a capture's header, and then judges them. The room for the bytes is made first, and no call after this one needs
+    /// memory.
     pub fn begin<S: Source>(alloc: Global, source: &mut S) -> Result<Reader, BeginRefusal>
         ensures offset { (n : ℕ) → result ≡ Err (begin.Truncated n) → n ≡ 0 }
-        ensures header { ForSome (S.left source.old) (λ xs. Begins (λ r. r.format) result xs (S.left source.new)) }
+        ensures header { ForSome (S.known source.old).left (λ xs. Begins result xs (S.known source.new).left) }
         ensures link { IfOk result (λ r. (r.format.link ≡ 1) ⊎ (r.format.link ≡ 101)) }
         ensures fresh { IfOk result (λ r. (r.offset ≡ 24) × (r.bytes ≡ []) × (r.ended ≡ None)) }
-        ensures count { S.faults source.old ≤ S.faults source.new }
-        ensures read_fault { result ≡ Err begin.ReadFault → Rose (S.faults source.old) (S.faults source.new) }
+        ensures faults { Counts (result ≡ Err begin.ReadFault) (S.known source.old).faults (S.known source.new).faults }
         ensures memory { result ≡ Err begin.Memory → source.new ≡ source.old }
     {
-        let last = Record::new(alloc)?;
-        let spare = Record::new(alloc)?;
-        let format = read_header(source)?;
+        let mut window = Window::new(alloc, ROOM)?;
+        window.fill(source, CAPTURE_HEADER)?;
+        let format = Format::of_capture(window.unread())?;
+        window.pass(CAPTURE_HEADER);
         Ok(Reader {
             format,
             offset: 24,
-            last,
-            spare,
+            window,
+            size: 0,
             ended: None,
         })
     }
@@ -73,16 +79,17 @@ impl Reader {
     pub fn bytes(&self) -> &[u8]
         ensures { result.now ≡ self.now.bytes }
     {
-        self.last.bytes()
+        let used = self.window.used();
+        &used[used.len() - self.size..]
     }
 
     /// Reads the next record. Once it has answered anything else than a whole record it reads no more, and answers the same.
     pub fn next<S: Source>(&mut self, source: &mut S) -> Next
-        ensures record { self.old.ended ≡ None → ForSome (S.left source.old) (λ xs. Answers result self.old.format self.old.offset xs self.new.bytes (S.left source.new)) }
+        ensures record { self.old.ended ≡ None → (xs : List ℕ) → Pending self.old.window (S.known source.old).left xs
+            → Answers result self.old.format self.old.offset xs self.new (S.known source.new).left }
         ensures step { self.old.ended ≡ None → Steps result self.old self.new }
         ensures again { ForSome self.old.ended (λ why. (result ≡ why) × (self.new ≡ self.old) × (source.new ≡ source.old)) }
-        ensures count { S.faults source.old ≤ S.faults source.new }
-        ensures read_fault { self.old.ended ≡ None → result ≡ ReadFault → Rose (S.faults source.old) (S.faults source.new) }
+        ensures faults { self.old.ended ≡ None → Counts (result ≡ ReadFault) (S.known source.old).faults (S.known source.new).faults }
     {
         match self.ended {
             Some(why) => why,
@@ -93,70 +100,64 @@ impl Reader {
     // Reads the next record, of a reader that hasn't ended.
     fn read_record<S: Source>(&mut self, source: &mut S) -> Next
         requires { self.old.ended ≡ None }
-        ensures record { ForSome (S.left source.old) (λ xs. Answers result self.old.format self.old.offset xs self.new.bytes (S.left source.new)) }
+        ensures record { (xs : List ℕ) → Pending self.old.window (S.known source.old).left xs
+            → Answers result self.old.format self.old.offset xs self.new (S.known source.new).left }
         ensures step { Steps result self.old self.new }
-        ensures count { S.faults source.old ≤ S.faults source.new }
-        ensures read_fault { result ≡ ReadFault → Rose (S.faults source.old) (S.faults source.new) }
+        ensures faults { Counts (result ≡ ReadFault) (S.known source.old).faults (S.known source.new).faults }
     {
-        let offset = self.offset;
-        let mut header = [0; RECORD_HEADER];
-        match fill(source, &mut header, RECORD_HEADER) {
-            Filled::Full => self.read_body(source, &header),
-            Filled::Ended(0) => self.end(Next::End),
-            Filled::Ended(_) => self.end(Next::Truncated { offset }),
-            Filled::Failed => self.end(Next::ReadFault),
+        match self.look(source) {
+            Ok(header) => self.take(header),
+            Err(why) => self.end(why),
         }
     }
 
-    // Reads the captured bytes of a record, whose header has been read.
-    fn read_body<S: Source>(&mut self, source: &mut S, header: &[u8]) -> Next
-        requires header { length header.now ≡ 16 }
+    // Reads on until the next record is there: what its header says, or why there is no whole one.
+    fn look<S: Source>(&mut self, source: &mut S) -> Result<RecordHeader, Next>
+        ensures looks { (xs : List ℕ) → Pending self.old.window (S.known source.old).left xs
+            → Looks result self.old.format self.old.offset xs (S.known source.new).left × Pending self.new.window (S.known source.new).left xs }
+        ensures found { Found result self.old.offset self.new.window }
+        ensures same { self.new ≡ with_window self.old self.new.window }
+        ensures faults { Counts (result ≡ Err ReadFault) (S.known source.old).faults (S.known source.new).faults }
+    {
+        self.window.fill(source, RECORD_HEADER)?;
+        let header = self
+            .format
+            .record_header(self.offset, self.window.unread())?;
+        let whole = RECORD_HEADER + header.size;
+        self.window.fill(source, whole)?;
+        if self.window.unread().len() < whole {
+            return Err(Next::Truncated {
+                offset: self.offset,
+            });
+        }
+        Ok(header)
+    }
+
+    // Uses the record with this header, which is there.
+    fn take(&mut self, header: RecordHeader) -> Next
+        requires there { 16 + header.size ≤ length self.old.window.unread }
+        requires few { header.size ≤ 262144 }
         requires going { self.old.ended ≡ None }
-        ensures record { (xs : List ℕ) → S.left source.old ≡ Some (drop 16 xs) → 16 ≤ length xs → header.now ≡ take 16 xs → Answers result self.old.format self.old.offset xs self.new.bytes (S.left source.new) }
-        ensures step { Steps result self.old self.new }
-        ensures count { S.faults source.old ≤ S.faults source.new }
-        ensures read_fault { result ≡ ReadFault → Rose (S.faults source.old) (S.faults source.new) }
+        ensures whole { result ≡ Whole header.ms self.old.offset }
+        ensures taken { self.new ≡ with_record self.old (take header.size (drop 16 self.old.window.unread)) (passed (16 + header.size) self.old.window) }
     {
         let offset = self.offset;
-        let length = self.format.captured_length(header);
-        if length > MOST_CAPTURED {
-            return self.end(Next::TooLong { offset, length });
-        }
-        let ms = self.format.milliseconds(header);
-        match self.spare.read(source, length as usize) {
-            Filled::Full => {
-                mem::swap(&mut self.last, &mut self.spare);
-                self.offset = offset.saturating_add(16 + length as u64);
-                Next::Whole { ms, offset }
-            }
-            Filled::Ended(_) => self.end(Next::Truncated { offset }),
-            Filled::Failed => self.end(Next::ReadFault),
+        let whole = RECORD_HEADER + header.size;
+        self.window.pass(whole);
+        self.size = header.size;
+        self.offset = offset.saturating_add(whole as u64);
+        Next::Whole {
+            ms: header.ms,
+            offset,
         }
     }
 
     // Answers this, from now on.
     fn end(&mut self, why: Next) -> Next
         ensures same { result ≡ why }
-        ensures ended { self.new ≡ ended_by self.old why }
+        ensures ended { self.new ≡ ended_by self.old self.old.window why }
     {
         self.ended = Some(why);
         why
-    }
-}
-
-// Reads the 24 bytes of a capture's header, and then judges them.
-fn read_header<S: Source>(source: &mut S) -> Result<Format, BeginRefusal>
-    ensures offset { (n : ℕ) → result ≡ Err (begin.Truncated n) → n ≡ 0 }
-    ensures header { ForSome (S.left source.old) (λ xs. Begins (λ f. f) result xs (S.left source.new)) }
-    ensures link { IfOk result (λ f. (f.link ≡ 1) ⊎ (f.link ≡ 101)) }
-    ensures count { S.faults source.old ≤ S.faults source.new }
-    ensures read_fault { result ≡ Err begin.ReadFault → Rose (S.faults source.old) (S.faults source.new) }
-    ensures no_memory { result ≢ Err begin.Memory }
-{
-    let mut header = [0; CAPTURE_HEADER];
-    match fill(source, &mut header, CAPTURE_HEADER) {
-        Filled::Full => Format::of_header(&header),
-        Filled::Ended(_) => Err(BeginRefusal::Truncated { offset: 0 }),
-        Filled::Failed => Err(BeginRefusal::ReadFault),
     }
 }

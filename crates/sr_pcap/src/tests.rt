@@ -29,9 +29,7 @@ struct Pieces<'a> {
 }
 
 impl Source for Pieces<'_> {
-    ghost left = { λ _. None };
-
-    ghost faults = { λ p. p.faults };
+    ghost known = { λ p. record { left = None; faults = p.faults } };
 
     fn read(&mut self, into: &mut [u8]) -> Got {
         self.calls = self.calls.saturating_add(1);
@@ -148,11 +146,17 @@ fn a_call_fails(rt: HostRuntime) {
         offset: 24,
     };
     let fault = Next::ReadFault;
-    assert!(rt; answers(rt.alloc(), &BIG, 100, 1, Err(BeginRefusal::ReadFault)));
-    assert!(rt; answers(rt.alloc(), &BIG, 100, 2, Ok([fault, fault, fault])));
-    assert!(rt; answers(rt.alloc(), &BIG, 100, 3, Ok([fault, fault, fault])));
-    assert!(rt; answers(rt.alloc(), &BIG, 100, 4, Ok([whole, fault, fault])));
-    assert!(rt; answers(rt.alloc(), &BIG, 100, 5, Ok([whole, Next::End, Next::End])));
+    let rows = [
+        (100, 1, Err(BeginRefusal::ReadFault)),
+        (30, 2, Ok([fault, fault, fault])),
+        (40, 2, Ok([fault, fault, fault])),
+        (100, 2, Ok([whole, fault, fault])),
+        (40, 3, Ok([whole, fault, fault])),
+        (100, 3, Ok([whole, Next::End, Next::End])),
+    ];
+    for (piece, call, expected) in rows {
+        assert!(rt; answers(rt.alloc(), &BIG, piece, call, expected));
+    }
 }
 
 #[test]

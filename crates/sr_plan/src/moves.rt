@@ -1,6 +1,6 @@
 ghost use Rattle.std.specs.Prelude.{◌≡◌, ◌≤◌, IfSome, Some, true, find, option_copied};
 ghost use Rattle.sr_shadow.specs.Book.{entry_for, holder_of};
-ghost use Rattle.sr_shadow.specs.Plan.{entry_at, first_move, first_usable, is_free, move_from, move_of, slot_then, slots_of, target, with_moved, move_plan};
+ghost use Rattle.sr_shadow.specs.Plan.{entry_at, first_move, first_usable, is_free, move_at, move_from, move_of, move_plan, other_way, slot_then, slots_of, target, with_moved};
 ghost use Rattle.sr_shadow.specs.declared.entry.Entry.{Entry as AnEntry};
 ghost use Rattle.sr_shadow.specs.Moves.{IsMover, NonePlaced, if_at, is_nobody_else};
 ghost use Rattle.sr_shadow.specs.Entry.{is_slot};
@@ -33,23 +33,43 @@ fn move_from(shadow: &Shadow, layout: &Layout, key: Key, slot: Place) -> Option<
     ensures { result ≡ move_from layout.now.shape shadow.now.book.entries key slot }
 {
     match slot {
-        Place::Slot { way, .. } => match entry_at(shadow, slot) {
-            Some(entry) => move_of(shadow, layout, key, entry, way, slot),
+        Place::Slot { way, .. } => match shadow.holder(slot) {
+            Some(holder) => move_away(shadow, layout, key, holder, way, slot),
             None => None,
         },
         Place::Row { .. } => None,
     }
 }
 
-// The entry whose Live place this is.
-pub(crate) fn entry_at(shadow: &Shadow, place: Place) -> Option<&Entry>
-    ensures value { option_copied result ≡ entry_at place shadow.now.book.entries }
-    ensures own { (e : AnEntry) → option_copied result ≡ Some e → entry_for e.key shadow.now.book.entries ≡ Some e }
+// The move of the entry that holds a slot of this way. One whose other bucket is full, as most are in a full table, is passed over before
+// anything else is asked.
+fn move_away(
+    shadow: &Shadow,
+    layout: &Layout,
+    key: Key,
+    holder: Key,
+    way: u8,
+    from: Place,
+) -> Option<Plan>
+    requires made { shadow.now.layout ≡ layout.now }
+    requires unplaced { NonePlaced key shadow.now.book.entries }
+    requires slot { is_slot from ≡ true }
+    requires held { holder_of from shadow.now.book.entries ≡ Some holder }
+    ensures { result ≡ move_at layout.now.shape shadow.now.book.entries key way from (entry_at from shadow.now.book.entries) }
 {
-    match shadow.holder(place) {
-        Some(key) => placed_at(shadow, place, key),
+    book_rules(shadow);
+    let free = free_beyond(shadow, layout, way, holder)?;
+    match placed_at(shadow, from, holder) {
+        Some(entry) => move_of(shadow, layout, key, entry, way, from, free),
         None => None,
     }
+}
+
+// The first free slot of the other bucket of a key that has a slot of this way.
+fn free_beyond(shadow: &Shadow, layout: &Layout, way: u8, key: Key) -> Option<Place>
+    ensures { result ≡ find (is_free shadow.now.book.entries) (slots_of layout.now.shape (other_way way) key) }
+{
+    first_free(shadow, &slots_of(layout, other_way(way), key))
 }
 
 // The entry of the key that holds a place, where it is its Live place.
@@ -57,6 +77,7 @@ fn placed_at(shadow: &Shadow, place: Place, key: Key) -> Option<&Entry>
     requires { holder_of place shadow.now.book.entries ≡ Some key }
     ensures value { option_copied result ≡ entry_at place shadow.now.book.entries }
     ensures own { (e : AnEntry) → option_copied result ≡ Some e → entry_for e.key shadow.now.book.entries ≡ Some e }
+    ensures holder { (e : AnEntry) → option_copied result ≡ Some e → e.key ≡ key }
 {
     book_rules(shadow);
     match shadow.get(key) {
@@ -84,13 +105,15 @@ fn move_of(
     entry: &Entry,
     way: u8,
     from: Place,
+    free: Place,
 ) -> Option<Plan>
     requires made { shadow.now.layout ≡ layout.now }
     requires unplaced { NonePlaced key shadow.now.book.entries }
     requires mover { IsMover key entry.now shadow.now.book.entries }
+    requires free { find (is_free shadow.now.book.entries) (slots_of layout.now.shape (other_way way) entry.now.key) ≡ Some free }
     ensures { result ≡ move_of layout.now.shape shadow.now.book.entries key entry.now.key way from }
 {
-    let to = target(shadow, layout, key, entry, other_way(way))?;
+    let to = target(shadow, layout, key, entry, other_way(way), free)?;
     let then = slot_then(shadow, layout, key, entry, to)?;
     if is_clear_but(shadow, layout, key, entry.key) {
         Some(Plan::Move {
@@ -104,13 +127,21 @@ fn move_of(
     }
 }
 
-// The first usable slot of the entry's bucket of a way, where the key that is planned counts as registered.
+// The first usable slot of the entry's bucket of a way, where the key that is planned counts as registered: the first free one, where it is usable.
 #[tactic(auto, using(sr_shadow::proofs::Moving::target_slot))]
-fn target(shadow: &Shadow, layout: &Layout, key: Key, entry: &Entry, way: u8) -> Option<Place>
+fn target(
+    shadow: &Shadow,
+    layout: &Layout,
+    key: Key,
+    entry: &Entry,
+    way: u8,
+    free: Place,
+) -> Option<Place>
     requires made { shadow.now.layout ≡ layout.now }
     requires unplaced { NonePlaced key shadow.now.book.entries }
     requires mover { IsMover key entry.now shadow.now.book.entries }
     requires way { (1 ≤ way) × (way ≤ 2) }
+    requires free { find (is_free shadow.now.book.entries) (slots_of layout.now.shape way entry.now.key) ≡ Some free }
     ensures value { result ≡ target layout.now.shape shadow.now.book.entries key entry.now.key way }
     ensures slot { IfSome result (λ to. is_slot to ≡ true) }
 {
@@ -118,7 +149,7 @@ fn target(shadow: &Shadow, layout: &Layout, key: Key, entry: &Entry, way: u8) ->
     if shadow.clashing(way, entry.key) || clashes(layout.shape(), way, entry.key, key) {
         None
     } else {
-        first_free(shadow, &slots_of(layout, way, entry.key))
+        Some(free)
     }
 }
 
@@ -152,10 +183,11 @@ fn slot_then_in(
     ensures { result ≡ first_usable layout.now.shape (with_moved entry.now.key to shadow.now.book.entries) key (slots_of layout.now.shape way key) }
 {
     book_rules(shadow);
+    let place = first_free_after(shadow, entry, to, &slots_of(layout, way, key))?;
     if shadow.clashing(way, key) {
         None
     } else {
-        first_free_after(shadow, entry, to, &slots_of(layout, way, key))
+        Some(place)
     }
 }
 

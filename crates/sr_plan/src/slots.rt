@@ -23,17 +23,18 @@ pub(crate) fn first_free(shadow: &Shadow, places: &[Place]) -> Option<Place>
     None
 }
 
-// The key's first usable slot in its bucket of a way.
+// The key's first usable slot in its bucket of a way. Whether there is a free one at all is a look at a table, and asked first.
 #[tactic(auto, using(sr_shadow::proofs::Usable::usable_slot))]
 fn usable_in(shadow: &Shadow, layout: &Layout, way: u8, key: Key) -> Option<Place>
     requires made { shadow.now.layout ≡ layout.now }
     requires way { (1 ≤ way) × (way ≤ 2) }
     ensures { result ≡ first_usable layout.now.shape shadow.now.book.entries key (slots_of layout.now.shape way key) }
 {
+    let place = first_free(shadow, &slots_of(layout, way, key))?;
     if shadow.clashing(way, key) {
         None
     } else {
-        first_free(shadow, &slots_of(layout, way, key))
+        Some(place)
     }
 }
 

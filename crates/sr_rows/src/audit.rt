@@ -86,7 +86,15 @@ fn log_row(log: &[u8]) -> Row<'_> {
     }
 }
 
-/// Whether this is told of a log that is judged by a script.
+// A shelf that has this script under the name of the scene, and nothing else.
+fn scene_shelf(alloc: Global, script: &[u8]) -> Result<MemShelf, AllocError> {
+    let mut files = Vec::new(alloc);
+    let name = String::from_str(alloc, "scene")?;
+    files.push((name, Vec::from_slice(alloc, script)?))?;
+    Ok(MemShelf::new(files, Vec::new(alloc)))
+}
+
+/// Whether this is told of a log that is judged by a script, over a shelf that has nothing else.
 pub fn judges<R: Threads + Sync>(
     rt: &R,
     alloc: Global,
@@ -94,7 +102,8 @@ pub fn judges<R: Threads + Sync>(
     log: &str,
     wanted: &str,
 ) -> Result<bool, AllocError> {
-    let told = told_with(rt, alloc, log_row(log.as_bytes()), script)?;
+    let mut shelf = scene_shelf(alloc, script)?;
+    let told = told_over(rt, alloc, log_row(log.as_bytes()), &mut shelf)?;
     Ok(told.bytes() == wanted.as_bytes())
 }
 

@@ -35,12 +35,13 @@ use Rattle.sr_law.specs.Setup.{SetupView}
 use Rattle.sr_law.specs.Taken.{keeps_places}
 use Rattle.sr_law.specs.TakenDown.{is_known_down}
 use Rattle.sr_law.specs.Ticks.{lines_before, out_of, start_of}
-use Rattle.sr_law.proofs.Clauses.{meets, none_broken}
+use Rattle.sr_law.proofs.Clauses.{none_broken}
+use Rattle.sr_law.proofs.Kept.{kept}
+use Rattle.sr_law.proofs.Switches.{newer}
 use Rattle.sr_frame.specs.declared.skip.Skip.{Skip}
-use Rattle.sr_run.specs.One.{one_lines, one_pools, one_setup, one_text, opening_line, packet_line, packet_lines, IsLawfulIn, PrintsLawful, KeepServers, lines_of, lines_in}
+use Rattle.sr_run.specs.One.{one_lines, one_pools, one_setup, one_text, opening_line, packet_line, packet_lines, packets_in, skips_in, printed, printed_in, PrintsLawful}
 use Rattle.sr_run.specs.Capture.{packets_from, skips_from, records_behind}
 use Rattle.sr_text.specs.LineText.{log_text}
-use Rattle.sr_pcap.specs.declared.begin_refusal.BeginRefusal.{BeginRefusal}
 use Rattle.sr_pcap.specs.declared.format.Format.{Format}
 use Rattle.sr_pcap.specs.Format.{header_of}
 use Rattle.sr_run.proofs.FrameVips.{AllFirstVip, packets_first}
@@ -313,33 +314,20 @@ text_of_lines : (servers : ℕ) (skips : List (ℕ × Skip)) (packets : List Pac
 unfolding one_text
 text_of_lines servers skips packets = refl
 
-lawful_in : (header : Result Format BeginRefusal) (vip : ℕ × ℕ) (servers : ℕ) (bytes : List ℕ) → 1 ≤ servers → IsLawfulIn header vip servers bytes
-lawful_in (Ok format) vip servers bytes some =
-    let frames = (records_behind format bytes).frames in (
-      text_of_lines servers (skips_from format.link vip 1 frames) (packets_from format.link vip 1 frames),
-      one_is_lawful servers (packets_from format.link vip 1 frames) some (packets_first format.link vip 1 frames),
+-- of each capture whose header is taken
+pub prints_lawful : (vip : ℕ × ℕ) (servers : ℕ) (bytes : List ℕ) (format : Format) → 1 ≤ servers → header_of bytes ≡ Ok format → PrintsLawful vip servers bytes
+unfolding printed
+prints_lawful vip servers bytes format some header =
+    let skips = skips_in format vip bytes in
+    let packets = packets_in format vip bytes in
+    let lawful = one_is_lawful servers packets some (packets_first format.link vip 1 (records_behind format (drop 24 bytes)).frames) in (
+      format,
+      header,
+      record {
+        lines = one_lines servers packets;
+        printed = ap (λ h. printed_in h vip servers (drop 24 bytes)) header ∙ text_of_lines servers skips packets;
+        lawful = lawful;
+        kept = kept (one_setup servers packets) (endings_of (reverse (one_lines servers packets))) (one_lines servers packets) lawful.0;
+        newer = newer (one_setup servers packets) (endings_of (reverse (one_lines servers packets))) (one_lines servers packets) lawful.0;
+      },
     )
-lawful_in (Err why) vip servers bytes some = tt
-
--- whatever is read
-pub prints_lawful : (vip : ℕ × ℕ) (servers : ℕ) (bytes : List ℕ) → 1 ≤ servers → PrintsLawful vip servers bytes
-unfolding PrintsLawful
-prints_lawful vip servers bytes some = lawful_in (header_of bytes) vip servers (drop 24 bytes) some
-
--- ---- so each of its connections keeps its server
-
-one_keeps : (servers : ℕ) (packets : List Packet) → 1 ≤ servers → AllFirstVip packets → KeepServers (one_pools servers) (one_lines servers packets)
-one_keeps servers packets some first i line at =
-    let met = meets (one_setup servers packets) [] (lines_before i (one_lines servers packets)) line (none_breaks servers packets [] some first i line at) in
-    (met.same, met.server)
-
-keeps_in : (header : Result Format BeginRefusal) (vip : ℕ × ℕ) (servers : ℕ) (bytes : List ℕ) → 1 ≤ servers → KeepServers (one_pools servers) (lines_in header vip servers bytes)
-keeps_in (Ok format) vip servers bytes some =
-    let frames = (records_behind format bytes).frames in
-    one_keeps servers (packets_from format.link vip 1 frames) some (packets_first format.link vip 1 frames)
-keeps_in (Err why) vip servers bytes some = λ i line at. absurd cc
-
--- whatever is read
-pub keeps_servers : (vip : ℕ × ℕ) (servers : ℕ) (bytes : List ℕ) → 1 ≤ servers → KeepServers (one_pools servers) (lines_of vip servers bytes)
-unfolding lines_of
-keeps_servers vip servers bytes some = keeps_in (header_of bytes) vip servers (drop 24 bytes) some

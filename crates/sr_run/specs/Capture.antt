@@ -1,5 +1,5 @@
 -- What a capture says: its packets to a virtual address, its skipped records, and why it ended early, if it did.
-use Rattle.std.specs.Prelude.{◌≡◌, ℕ, ◌+◌, ◌≤◌, List, [], ◌∷◌, ◌++◌, length, drop, Option, Some, None, Ok, Err}
+use Rattle.std.specs.Prelude.{◌≡◌, ℕ, ◌+◌, ◌≤◌, List, [], ◌∷◌, ◌++◌, length, drop, Option, Some, None, Result, Ok, Err}
 use Rattle.sr_base.specs.declared.packet.Packet.{Packet}
 use Rattle.sr_frame.specs.declared.seen.Seen.{Seen}
 use Rattle.sr_frame.specs.declared.seen.Seen.TheVariants as seen_as
@@ -14,8 +14,10 @@ use Rattle.sr_pcap.specs.Format.{header_of}
 use Rattle.sr_pcap.specs.Records.{Frame, Records, records_from}
 use Rattle.sr_run.specs.declared.status.CaptureRefusal.{CaptureRefusal}
 use Rattle.sr_run.specs.declared.status.CaptureRefusal.TheVariants as refusal
-use Rattle.sr_run.specs.declared.capture.Reading.{Reading}
-use Rattle.sr_run.specs.declared.capture.Reading.TheVariants as reading
+use Rattle.sr_run.specs.declared.capture.Captured.{Captured}
+use Rattle.sr_run.specs.declared.status.Status.{Status}
+use Rattle.sr_run.specs.declared.status.Status.TheVariants.{Capture, Memory}
+use Rattle.sr_run.specs.declared.status.Status.TheVariants as status
 
 -- the refusal of what comes after the last record, where no further one may come
 abbrev pub ending_of : Next → Option CaptureRefusal
@@ -25,9 +27,13 @@ ending_of (Truncated offset) = Some (refusal.Cut offset)
 ending_of ReadFault = None
 ending_of (TooLong offset size) = Some (refusal.TooLong offset)
 
--- the records behind a header: 4,194,304 of them at most
+-- how many whole records a capture has at most
+abbrev pub most_records : ℕ
+most_records = 4194304
+
+-- the records behind a header, no more than that
 unfoldable pub records_behind : Format → List ℕ → Records
-records_behind format bytes = records_from format 4194304 24 bytes
+records_behind format bytes = records_from format most_records 24 bytes
 
 -- the packet in the record of this position, if it has one
 abbrev pub packet_of : ℕ → Seen → List Packet
@@ -58,14 +64,14 @@ header_refusal begin.LinkType = refusal.LinkType
 header_refusal begin.ReadFault = refusal.Magic
 header_refusal begin.Memory = refusal.Magic
 
--- how reading ends where the header wasn't read
-abbrev pub reading_without : BeginRefusal → Reading
-reading_without (begin.Truncated offset) = reading.Refused (refusal.Cut offset)
-reading_without begin.Magic = reading.Refused refusal.Magic
-reading_without begin.Major = reading.Refused refusal.Major
-reading_without begin.LinkType = reading.Refused refusal.LinkType
-reading_without begin.ReadFault = reading.ReadFault
-reading_without begin.Memory = reading.Memory
+-- how a run ends where the header wasn't read
+abbrev pub status_without : BeginRefusal → Status
+status_without (begin.Truncated offset) = Capture (refusal.Cut offset)
+status_without begin.Magic = Capture refusal.Magic
+status_without begin.Major = Capture refusal.Major
+status_without begin.LinkType = Capture refusal.LinkType
+status_without begin.ReadFault = status.ReadFault
+status_without begin.Memory = Memory
 
 -- What was kept is what the records behind the header say; where no record was refused, the source has no byte left.
 pub record Keeps (format : Format) (vip : ℕ × ℕ) (xs : List ℕ) (left : Option (List ℕ)) (skips : List (ℕ × Skip)) (packets : List Packet) (ending : Option CaptureRefusal) : Type 0 where
@@ -75,37 +81,31 @@ pub record Keeps (format : Format) (vip : ℕ × ℕ) (xs : List ℕ) (left : Op
   pub all : ending ≡ None → left ≡ Some []
 
 -- what reading the records behind a header of this format gives
-abbrev pub ReadsOn : Reading → Format → (ℕ × ℕ) → List ℕ → Option (List ℕ) → Type 0
-ReadsOn (reading.Read captured) format vip xs left = Keeps format vip xs left captured.skips.items captured.packets.items captured.ending
-ReadsOn (reading.Refused why) format vip xs left = ⊥
-ReadsOn reading.ReadFault format vip xs left = Unit {0}
-ReadsOn reading.Memory format vip xs left = Unit {0}
+abbrev pub ReadsOn : Result Captured Status → Format → (ℕ × ℕ) → List ℕ → Option (List ℕ) → Type 0
+ReadsOn (Ok captured) format vip xs left = Keeps format vip xs left captured.skips.items captured.packets.items captured.ending
+ReadsOn (Err status.ReadFault) format vip xs left = Unit {0}
+ReadsOn (Err Memory) format vip xs left = Unit {0}
+ReadsOn (Err other) format vip xs left = ⊥
 
--- what reading a capture gives
-abbrev pub Reads : Reading → (ℕ × ℕ) → List ℕ → Option (List ℕ) → Type 0
-Reads (reading.Read captured) vip xs left =
+-- what reading a capture gives: with a refusal the header is refused
+abbrev pub Reads : Result Captured Status → (ℕ × ℕ) → List ℕ → Option (List ℕ) → Type 0
+Reads (Ok captured) vip xs left =
     (format : Format) × (header_of xs ≡ Ok format) × Keeps format vip (drop 24 xs) left captured.skips.items captured.packets.items captured.ending
-Reads (reading.Refused why) vip xs left = (refused : BeginRefusal) × (header_of xs ≡ Err refused) × (why ≡ header_refusal refused)
-Reads reading.ReadFault vip xs left = Unit {0}
-Reads reading.Memory vip xs left = Unit {0}
+Reads (Err (Capture why)) vip xs left = (refused : BeginRefusal) × (header_of xs ≡ Err refused) × (why ≡ header_refusal refused)
+Reads (Err status.ReadFault) vip xs left = Unit {0}
+Reads (Err Memory) vip xs left = Unit {0}
+Reads (Err other) vip xs left = ⊥
 
--- no more packets than records that may come
-abbrev pub IsFew : Reading → Type 0
-IsFew (reading.Read captured) = length captured.packets.items ≤ 4194304
-IsFew (reading.Refused why) = Unit {0}
-IsFew reading.ReadFault = Unit {0}
-IsFew reading.Memory = Unit {0}
-
--- the source failed
-abbrev pub IsReadFault : Reading → Type 0
-IsReadFault (reading.Read captured) = ⊥
-IsReadFault (reading.Refused why) = ⊥
-IsReadFault reading.ReadFault = Unit {0}
-IsReadFault reading.Memory = ⊥
+-- what any source allows: no more packets than records that may come; a refusal of the header, a fault, or want of memory
+abbrev pub IsRead : Result Captured Status → Type 0
+IsRead (Ok captured) = length captured.packets.items ≤ most_records
+IsRead (Err (Capture why)) = Unit {0}
+IsRead (Err status.ReadFault) = Unit {0}
+IsRead (Err Memory) = Unit {0}
+IsRead (Err other) = ⊥
 
 -- these were kept, and the capture ended by what came then
-abbrev pub EndsWith : Reading → Next → List (ℕ × Skip) → List Packet → Type 0
-EndsWith (reading.Read captured) next skips packets = (captured.skips.items ≡ skips) × (captured.packets.items ≡ packets) × (captured.ending ≡ ending_of next) × (next ≡ ReadFault → ⊥)
-EndsWith (reading.Refused why) next skips packets = ⊥
-EndsWith reading.ReadFault next skips packets = next ≡ ReadFault
-EndsWith reading.Memory next skips packets = ⊥
+abbrev pub EndsWith : Result Captured Status → Next → List (ℕ × Skip) → List Packet → Type 0
+EndsWith (Ok captured) next skips packets = (captured.skips.items ≡ skips) × (captured.packets.items ≡ packets) × (captured.ending ≡ ending_of next) × (next ≡ ReadFault → ⊥)
+EndsWith (Err status.ReadFault) next skips packets = next ≡ ReadFault
+EndsWith (Err other) next skips packets = ⊥

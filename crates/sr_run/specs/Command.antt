@@ -2,6 +2,7 @@
 use Rattle.std.specs.Prelude.{ℕ, ◌≤◌, ◌==◌, Bool, false, if◌then◌else◌, List, [], ◌∷◌, codes, Option, Some, None, IsSome, option_map, option_and_then}
 use Rattle.std.specs.List.{list_any}
 use Rattle.std.specs.Str.{bytes_eq}
+use Rattle.sr_gen.specs.Capture.{most_packets}
 use Rattle.sr_script.specs.Address.{address_of}
 use Rattle.sr_run.specs.Numbers.{count_of_packets, number_of}
 use Rattle.sr_run.specs.Servers.{count_of_servers}
@@ -60,5 +61,5 @@ seen (read.Audit script) = Audit script.now
 -- its numbers are in range: it has a server; it has packets, and no more than a capture may have
 abbrev pub IsInRange : Command → Type 0
 IsInRange (One vip servers) = 1 ≤ servers
-IsInRange (Make number packets) = (1 ≤ packets) × (packets ≤ 4194304)
+IsInRange (Make number packets) = (1 ≤ packets) × (packets ≤ most_packets)
 IsInRange (Audit script) = Unit {0}

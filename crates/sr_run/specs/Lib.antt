@@ -1,12 +1,14 @@
 pub mod Audit
 pub mod Capture
 pub mod Command
+pub mod LawfulLog
 pub mod Make
 pub mod Numbering
 pub mod Numbers
 pub mod One
+pub mod Outside
 pub mod Parting
-pub mod Run
+pub mod Printing
 pub mod ScriptText
 pub mod Servers
 pub mod Status

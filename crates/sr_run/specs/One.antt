@@ -1,27 +1,28 @@
 -- What the command `one` does: one pipe, one pool, every packet sent to the server that its key's hash picks.
-use Rattle.std.specs.Prelude.{◌≡◌, ℕ, ◌+◌, List, [], ◌∷◌, drop, Option, Some, None, Result, Ok, Err, IsTrue, slice_get}
+use Rattle.std.specs.Prelude.{◌≡◌, ◌⊎◌, ℕ, ◌+◌, List, [], ◌∷◌, drop, Option, Some, None, Result, Ok, Err, IsErr}
 use Rattle.std.specs.List.{range_with_len}
+use Rattle.std.specs.Option.{ForSome}
 use Rattle.sr_base.specs.declared.packet.Packet.{Packet}
 use Rattle.sr_base.specs.declared.shape.Shape.{Shape}
 use Rattle.sr_frame.specs.declared.skip.Skip.{Skip}
 use Rattle.sr_hash.specs.Uses.{selected}
-use Rattle.sr_io.specs.Sink.{Adds, AddsFront}
+use Rattle.sr_io.specs.Faults.{Counts}
+use Rattle.sr_io.specs.Sink.{SinkKnown, Adds, AddsFront}
+use Rattle.sr_io.specs.Source.{SourceKnown}
 use Rattle.sr_law.specs.declared.line.Line.{Line}
 use Rattle.sr_law.specs.declared.line.Line.TheVariants as lines
 use Rattle.sr_law.specs.declared.verdict.Verdict.TheVariants.{To}
-use Rattle.sr_law.specs.Lawful.{IsLawful}
 use Rattle.sr_law.specs.Pools.{VipPools}
-use Rattle.sr_law.specs.Same.{meets_same}
-use Rattle.sr_law.specs.Server.{meets_server}
 use Rattle.sr_law.specs.Setup.{SetupView}
-use Rattle.sr_law.specs.Ticks.{lines_before}
 use Rattle.sr_pcap.specs.declared.begin_refusal.BeginRefusal.{BeginRefusal}
 use Rattle.sr_pcap.specs.declared.format.Format.{Format}
 use Rattle.sr_pcap.specs.Format.{header_of}
 use Rattle.sr_run.specs.declared.status.CaptureRefusal.{CaptureRefusal}
 use Rattle.sr_run.specs.declared.status.Status.{Status}
-use Rattle.sr_run.specs.declared.status.Status.TheVariants.{Done, Usage, Script, Capture, ReadFault, WriteFault, Memory, Breach}
+use Rattle.sr_run.specs.declared.status.Status.TheVariants.{Done, Capture, ReadFault, WriteFault, Memory}
 use Rattle.sr_run.specs.Capture.{records_behind, ending_of, packets_from, skips_from, header_refusal}
+use Rattle.sr_run.specs.LawfulLog.{IsLawfulLog}
+use Rattle.sr_run.specs.Outside.{Outside}
 use Rattle.sr_script.specs.Spelled.{default_shape}
 use Rattle.sr_text.specs.LineText.{log_text}
 
@@ -71,10 +72,12 @@ printed_in (Ok format) vip servers bytes =
     one_text servers (skips_from format.link vip 1 frames) (packets_from format.link vip 1 frames)
 printed_in (Err why) vip servers bytes = []
 
--- the lines that are printed of a capture with this header
-abbrev pub lines_in : Result Format BeginRefusal → ℕ × ℕ → ℕ → List ℕ → List Line
-lines_in (Ok format) vip servers bytes = one_lines servers (packets_from format.link vip 1 (records_behind format bytes).frames)
-lines_in (Err why) vip servers bytes = []
+-- the packets and the skipped records of a capture of this format
+abbrev pub packets_in : Format → ℕ × ℕ → List ℕ → List Packet
+packets_in format vip bytes = packets_from format.link vip 1 (records_behind format (drop 24 bytes)).frames
+
+abbrev pub skips_in : Format → ℕ × ℕ → List ℕ → List (ℕ × Skip)
+skips_in format vip bytes = skips_from format.link vip 1 (records_behind format (drop 24 bytes)).frames
 
 -- why these bytes are refused, if they are
 unfoldable pub refusal_of : List ℕ → Option CaptureRefusal
@@ -84,44 +87,36 @@ refusal_of bytes = refusal_in (header_of bytes) (drop 24 bytes)
 unfoldable pub printed : ℕ × ℕ → ℕ → List ℕ → List ℕ
 printed vip servers bytes = printed_in (header_of bytes) vip servers (drop 24 bytes)
 
--- the lines among what `one` prints of these bytes
-unfoldable pub lines_of : ℕ × ℕ → ℕ → List ℕ → List Line
-lines_of vip servers bytes = lines_in (header_of bytes) vip servers (drop 24 bytes)
+-- What `one` prints of these bytes, of a header that is taken, is the text of the skipped records and of lines that are lawful for its setup.
+abbrev pub PrintsLawful : ℕ × ℕ → ℕ → List ℕ → Type 0
+PrintsLawful vip servers bytes =
+    (format : Format) × (header_of bytes ≡ Ok format)
+    × IsLawfulLog (one_setup servers (packets_in format vip bytes)) (skips_in format vip bytes) (printed vip servers bytes)
 
--- After these lines a line keeps to its connection's server: while the connection is open the line has its opening's pool, and its server is
--- the one that the key's hash picks from that pool.
-abbrev pub KeepsServer : List VipPools → List Line → Line → Type 0
-KeepsServer pools before line = IsTrue (meets_same before line) × IsTrue (meets_server pools before line)
+-- the statuses with which `one` ends: it reads a capture, and knows neither scripts nor rules of lines
+abbrev pub EndsOne : Status → Type 0
+EndsOne Done = Unit {0}
+EndsOne (Capture why) = Unit {0}
+EndsOne ReadFault = Unit {0}
+EndsOne WriteFault = Unit {0}
+EndsOne Memory = Unit {0}
+EndsOne status = ⊥
 
--- each of these lines does, after those before it
-abbrev pub KeepServers : List VipPools → List Line → Type 0
-KeepServers pools lines = (i : ℕ) (line : Line) → slice_get lines i ≡ Some line → KeepsServer pools (lines_before i lines) line
+-- What each status says of `one` over these bytes, of what the source has left of them, and of what the sink took.
+abbrev pub OneSays : Status → ℕ × ℕ → ℕ → List ℕ → SourceKnown → SinkKnown → SinkKnown → Type 0
+OneSays Done vip servers bytes source before after =
+    (refusal_of bytes ≡ None) × (source.left ≡ Some []) × Adds before.taken after.taken (printed vip servers bytes) × PrintsLawful vip servers bytes
+OneSays (Capture why) vip servers bytes source before after =
+    (refusal_of bytes ≡ Some why) × Adds before.taken after.taken (printed vip servers bytes) × (IsErr (header_of bytes) ⊎ PrintsLawful vip servers bytes)
+OneSays ReadFault vip servers bytes source before after = Adds before.taken after.taken []
+OneSays WriteFault vip servers bytes source before after =
+    (refusal_of bytes ≡ None → source.left ≡ Some []) × AddsFront before.taken after.taken (printed vip servers bytes) × PrintsLawful vip servers bytes
+OneSays Memory vip servers bytes source before after = Adds before.taken after.taken []
+OneSays status vip servers bytes source before after = ⊥
 
--- what is printed of a capture with this header is the text of its skipped records and its lines, and these are lawful for the command's setup
-abbrev pub IsLawfulIn : Result Format BeginRefusal → ℕ × ℕ → ℕ → List ℕ → Type 0
-IsLawfulIn (Ok format) vip servers bytes =
-    let frames = (records_behind format bytes).frames in
-    let packets = packets_from format.link vip 1 frames in
-    (printed_in (Ok format) vip servers bytes ≡ log_text (skips_from format.link vip 1 frames) (lines_in (Ok format) vip servers bytes))
-    × IsLawful (one_setup servers packets) (lines_in (Ok format) vip servers bytes)
-IsLawfulIn (Err why) vip servers bytes = Unit {0}
-
--- The lines among what `one` prints of these bytes are lawful for its setup: no line breaks a clause by the lines before it, and each packet
--- has its final line. Where the header is refused nothing is printed.
-unfoldable pub PrintsLawful : ℕ × ℕ → ℕ → List ℕ → Type 0
-PrintsLawful vip servers bytes = IsLawfulIn (header_of bytes) vip servers (drop 24 bytes)
-
--- the header is one that is taken
-abbrev pub HasHeader : List ℕ → Type 0
-HasHeader bytes = (format : Format) × (header_of bytes ≡ Ok format)
-
--- What each status says of `one` over these bytes: what is left of them, and what the sink took.
-abbrev pub RunsOne : Status → ℕ × ℕ → ℕ → List ℕ → Option (List ℕ) → Option (List ℕ) → Option (List ℕ) → Type 0
-RunsOne Done vip servers bytes left old new = (refusal_of bytes ≡ None) × (left ≡ Some []) × Adds old new (printed vip servers bytes)
-RunsOne Usage vip servers bytes left old new = ⊥
-RunsOne (Script refusal) vip servers bytes left old new = ⊥
-RunsOne (Capture why) vip servers bytes left old new = (refusal_of bytes ≡ Some why) × Adds old new (printed vip servers bytes)
-RunsOne ReadFault vip servers bytes left old new = Adds old new []
-RunsOne WriteFault vip servers bytes left old new = HasHeader bytes × (refusal_of bytes ≡ None → left ≡ Some []) × AddsFront old new (printed vip servers bytes)
-RunsOne Memory vip servers bytes left old new = Adds old new []
-RunsOne (Breach line what) vip servers bytes left old new = ⊥
+-- What a run of `one` comes to: its statuses, for every source; what they say, where the source tells its bytes; and that a read fault is one of
+-- the source.
+pub record RunsOne (vip : ℕ × ℕ) (servers : ℕ) (status : Status) (before after : Outside) : Type 0 where
+  pub ends : EndsOne status
+  pub says : ForSome before.source.left (λ bytes. OneSays status vip servers bytes after.source before.sink after.sink)
+  pub read_fault : Counts (status ≡ ReadFault) before.source.faults after.source.faults

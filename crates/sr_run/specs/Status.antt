@@ -4,8 +4,11 @@ use Rattle.std.specs.Fmt.{decimal}
 use Rattle.sr_law.specs.declared.clause.Clause.{Clause}
 use Rattle.sr_law.specs.declared.clause.Clause.TheVariants as clause
 use Rattle.sr_script.specs.Why.{word_of}
+use Rattle.sr_text.specs.Fields.{key_text}
+use Rattle.sr_text.specs.declared.log_refusal.LogRefusal.{LogRefusal}
+use Rattle.sr_text.specs.declared.log_refusal.LogRefusal.TheVariants as log
 use Rattle.sr_run.specs.declared.status.Status.{Status}
-use Rattle.sr_run.specs.declared.status.Status.TheVariants.{Done, Usage, Script, Capture, ReadFault, WriteFault, Memory, Breach}
+use Rattle.sr_run.specs.declared.status.Status.TheVariants.{Done, Usage, Script, Capture, ReadFault, WriteFault, Memory, Waiting, Breach}
 use Rattle.sr_run.specs.declared.status.CaptureRefusal.{CaptureRefusal}
 use Rattle.sr_run.specs.declared.status.CaptureRefusal.TheVariants.{Cut, TooLong, TooMany, Magic, Major, LinkType}
 
@@ -18,7 +21,14 @@ code_of (Capture why) = 3
 code_of ReadFault = 4
 code_of WriteFault = 5
 code_of Memory = 6
+code_of (Waiting key) = 7
 code_of (Breach line what) = 8
+
+-- how a run ends where a log can't be read
+abbrev pub status_of_log : LogRefusal → Status
+status_of_log (log.BadLine number) = Breach number clause.Text
+status_of_log log.ReadFault = ReadFault
+status_of_log log.Memory = Memory
 
 -- why a capture was refused, before what follows
 abbrev pub capture_words : CaptureRefusal → List ℕ → List ℕ
@@ -55,4 +65,5 @@ status_text (Capture why) = codes "silkroad: capture: " ++ capture_words why (10
 status_text ReadFault = codes "silkroad: read fault\n"
 status_text WriteFault = codes "silkroad: write fault\n"
 status_text Memory = codes "silkroad: no memory\n"
+status_text (Waiting key) = codes "silkroad: waiting for " ++ key_text key (10 ∷ [])
 status_text (Breach line what) = codes "silkroad: audit: line " ++ (decimal line ++ (codes " breaks " ++ (clause_word what ++ (10 ∷ []))))

@@ -1,13 +1,15 @@
-ghost use Rattle.std.specs.Prelude.{◌≡◌, ◌≤◌, ◌+◌, ◌++◌, ◌⊎◌, ◌<◌, List, ℕ, Some, None, OnOk, length};
+ghost use Rattle.std.specs.Prelude.{◌≡◌, ◌≤◌, ◌+◌, ◌++◌, ◌⊎◌, List, ℕ, None, Err, OnOk, length};
 ghost use Rattle.std.specs.Option.{ForSome};
-ghost use Rattle.sr_io.specs.Faults.{Rose};
-ghost use Rattle.sr_run.specs.Capture.{Reads, ReadsOn, IsFew, IsReadFault, EndsWith, packet_of, reading_without, skip_of};
+ghost use Rattle.sr_io.specs.Faults.{Counts};
+ghost use Rattle.sr_io.specs.Window.{Pending};
+ghost use Rattle.sr_run.specs.Capture.{Reads, ReadsOn, IsRead, EndsWith, packet_of, skip_of};
+ghost use Rattle.sr_run.specs.declared.status.Status.TheVariants as status;
 
-use crate::CaptureRefusal;
+use crate::{CaptureRefusal, Status};
 use sr_base::Packet;
 use sr_frame::{Seen, Skip, read};
 use sr_io::Source;
-use sr_pcap::{BeginRefusal, Next, Reader};
+use sr_pcap::{Next, Reader};
 use std::alloc::{AllocError, Global};
 
 /// The most whole records of a capture.
@@ -24,44 +26,19 @@ pub struct Captured {
     pub ending: Option<CaptureRefusal>,
 }
 
-/// How reading a capture ended.
-#[derive(Drop)]
-pub enum Reading {
-    /// The header was read, and the records up to the end or up to one that was refused.
-    Read(Captured),
-    /// The header was refused.
-    Refused(CaptureRefusal),
-    /// The source failed.
-    ReadFault,
-    /// No memory was found.
-    Memory,
-}
-
-/// Reads a whole capture, of which the packets to this virtual address are kept.
-pub(crate) fn read_capture<S: Source>(alloc: Global, vip: (u32, u16), source: &mut S) -> Reading
-    ensures capture { ForSome (S.left source.old) (λ xs. Reads result vip xs (S.left source.new)) }
-    ensures few { IsFew result }
-    ensures count { S.faults source.old ≤ S.faults source.new }
-    ensures read_fault { IsReadFault result → Rose (S.faults source.old) (S.faults source.new) }
+/// Reads a whole capture, of which the packets to this virtual address are kept. The error is how the run ends: the header was refused, the
+/// source failed, or no memory was found.
+pub(crate) fn read_capture<S: Source>(
+    alloc: Global,
+    vip: (u32, u16),
+    source: &mut S,
+) -> Result<Captured, Status>
+    ensures capture { ForSome (S.known source.old).left (λ xs. Reads result vip xs (S.known source.new).left) }
+    ensures read { IsRead result }
+    ensures faults { Counts (result ≡ Err status.ReadFault) (S.known source.old).faults (S.known source.new).faults }
 {
-    match Reader::begin(alloc, source) {
-        Ok(reader) => read_records(alloc, vip, reader, source),
-        Err(why) => without_header(why),
-    }
-}
-
-// How reading ended where the header wasn't read.
-fn without_header(why: BeginRefusal) -> Reading
-    ensures { result ≡ reading_without why }
-{
-    match why {
-        BeginRefusal::Truncated { offset } => Reading::Refused(CaptureRefusal::Cut { offset }),
-        BeginRefusal::Magic => Reading::Refused(CaptureRefusal::Magic),
-        BeginRefusal::Major => Reading::Refused(CaptureRefusal::Major),
-        BeginRefusal::LinkType => Reading::Refused(CaptureRefusal::LinkType),
-        BeginRefusal::ReadFault => Reading::ReadFault,
-        BeginRefusal::Memory => Reading::Memory,
-    }
+    let reader = Reader::begin(alloc, source)?;
+    read_records(alloc, vip, reader, source)
 }
 
 // Reads the records behind the header.
@@ -70,13 +47,13 @@ fn read_records<S: Source>(
     vip: (u32, u16),
     mut reader: Reader,
     source: &mut S,
-) -> Reading
+) -> Result<Captured, Status>
     requires fresh { (reader.offset ≡ 24) × (reader.ended ≡ None) }
     requires link { (reader.format.link ≡ 1) ⊎ (reader.format.link ≡ 101) }
-    ensures capture { ForSome (S.left source.old) (λ xs. ReadsOn result reader.format vip xs (S.left source.new)) }
-    ensures few { IsFew result }
-    ensures count { S.faults source.old ≤ S.faults source.new }
-    ensures read_fault { IsReadFault result → Rose (S.faults source.old) (S.faults source.new) }
+    ensures capture { (xs : List ℕ) → Pending reader.window (S.known source.old).left xs
+        → ReadsOn result reader.format vip xs (S.known source.new).left }
+    ensures read { IsRead result }
+    ensures faults { Counts (result ≡ Err status.ReadFault) (S.known source.old).faults (S.known source.new).faults }
 {
     let mut skips = Vec::new(alloc);
     let mut packets = Vec::new(alloc);
@@ -84,10 +61,7 @@ fn read_records<S: Source>(
         match reader.next(source) {
             Next::Whole { .. } => {
                 let seen = read(reader.link(), reader.bytes(), &[vip]);
-                match keep(number + 1, seen, &mut skips, &mut packets) {
-                    Ok(()) => {}
-                    Err(_) => return Reading::Memory,
-                }
+                keep(number + 1, seen, &mut skips, &mut packets)?;
             }
             next => return ended(next, skips, packets),
         }
@@ -119,17 +93,17 @@ fn keep(
 }
 
 // What was read where this is what came after it, and a whole record is one too many.
-fn ended(next: Next, skips: Vec<(u32, Skip)>, packets: Vec<Packet>) -> Reading
+fn ended(next: Next, skips: Vec<(u32, Skip)>, packets: Vec<Packet>) -> Result<Captured, Status>
     ensures { EndsWith result next skips.items packets.items }
 {
     let ending = match next {
-        Next::ReadFault => return Reading::ReadFault,
+        Next::ReadFault => return Err(Status::ReadFault),
         Next::End => None,
         Next::Truncated { offset } => Some(CaptureRefusal::Cut { offset }),
         Next::TooLong { offset, .. } => Some(CaptureRefusal::TooLong { offset }),
         Next::Whole { offset, .. } => Some(CaptureRefusal::TooMany { offset }),
     };
-    Reading::Read(Captured {
+    Ok(Captured {
         skips,
         packets,
         ending,

@@ -7,14 +7,13 @@
 //! | `command`, `parting`, `servers`, `numbers` | the words: the command, its parts by the command-line library, and what stands among them |
 //! | `one`, with `capture`, `print_log` | the command `one`: a whole capture is read, then printed |
 //! | `make_capture` | the command `make` |
-//! | `audit`, with `script_text`, `numbering`, `judged` | the command `audit`: the script, the log, the records' numbers, and what it came to |
+//! | `audit`, with `script_text`, `numbering` | the command `audit`: the script, the log, and the records' numbers |
 //! | `status` | how a run ends |
 #![tactic(auto)]
 
 mod audit;
 mod capture;
 mod command;
-mod judged;
 mod make_capture;
 mod numbering;
 mod numbers;

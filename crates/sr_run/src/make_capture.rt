@@ -1,7 +1,8 @@
 ghost use Rattle.std.specs.Prelude.{◌≡◌, ◌≤◌};
-ghost use Rattle.sr_io.specs.Faults.{Rose};
-ghost use Rattle.sr_run.specs.Make.{Makes};
-ghost use Rattle.sr_run.specs.Run.{EndsMake, WritesNothing};
+ghost use Rattle.sr_gen.specs.Capture.{most_packets};
+ghost use Rattle.sr_io.specs.Faults.{Counts};
+ghost use Rattle.sr_run.specs.Make.{RunsMake};
+ghost use Rattle.sr_run.specs.Outside.{WritesNothing};
 ghost use Rattle.sr_run.specs.declared.status.Status.TheVariants as status;
 
 use crate::Status;
@@ -10,12 +11,10 @@ use sr_io::{Put, Sink};
 
 /// Runs the command `make`: writes the capture of so many packets that follows from the number, and flushes. It reads nothing.
 pub(crate) fn run_make<K: Sink>(number: u64, packets: u32, sink: &mut K) -> Status
-    requires { (1 ≤ packets) × (packets ≤ 4194304) }
-    ensures made { Makes result number packets (K.taken sink.old) (K.taken sink.new) }
-    ensures ends { EndsMake result }
-    ensures quiet { WritesNothing result (K.taken sink.old) (K.taken sink.new) }
-    ensures count { K.faults sink.old ≤ K.faults sink.new }
-    ensures write_fault { result ≡ status.WriteFault → Rose (K.faults sink.old) (K.faults sink.new) }
+    requires { (1 ≤ packets) × (packets ≤ most_packets) }
+    ensures made { RunsMake number packets result (K.known sink.old) (K.known sink.new) }
+    ensures quiet { WritesNothing result (K.known sink.old) (K.known sink.new) }
+    ensures sink { Counts (result ≡ status.WriteFault) (K.known sink.old).faults (K.known sink.new).faults }
 {
     match make(number, packets, sink) {
         Put::Failed => return Status::WriteFault,

@@ -1,15 +1,14 @@
 ghost use Rattle.std.specs.Prelude.{◌≡◌, ◌+◌, ◌*◌, ◌^◌, ◌<◌, ◌≤◌, ℕ, List, length};
 ghost use Rattle.std.specs.List.{flat_map};
-ghost use Rattle.sr_io.specs.Faults.{Rose};
-ghost use Rattle.sr_io.specs.Sink.{Puts};
-ghost use Rattle.sr_io.specs.declared.sink.Put.TheVariants.{Failed};
+ghost use Rattle.sr_io.specs.Sink.{Writes, put_of};
+ghost use Rattle.sr_run.specs.Capture.{most_records};
 ghost use Rattle.sr_run.specs.One.{one_text, opening_line, packet_line, packet_lines};
 ghost use Rattle.sr_text.specs.LineText.{line_text, skip_text};
 
 use sr_base::{Packet, Version};
 use sr_frame::Skip;
 use sr_hash::select;
-use sr_io::{Put, Sink};
+use sr_io::{Sink, WriteFault};
 use sr_law::{Line, Verdict};
 use sr_text::{print, print_head, print_skip};
 
@@ -20,51 +19,31 @@ pub(crate) fn print_log<K: Sink>(
     skips: &[(u32, Skip)],
     packets: &[Packet],
     sink: &mut K,
-) -> Put
+) -> Result<(), WriteFault>
     requires some { 1 ≤ servers }
-    requires few { length packets.now ≤ 4194304 }
-    ensures bytes { Puts result (K.taken sink.old) (K.taken sink.new) (one_text servers skips.now packets.now) }
-    ensures count { K.faults sink.old ≤ K.faults sink.new }
-    ensures failed { result ≡ Failed → Rose (K.faults sink.old) (K.faults sink.new) }
+    requires few { length packets.now ≤ most_records }
+    ensures { Writes (put_of result) (K.known sink.old) (K.known sink.new) (one_text servers skips.now packets.now) }
 {
-    match print_head(sink) {
-        Put::All => {}
-        Put::Failed => return Put::Failed,
-    }
-    match print_skips(skips, sink) {
-        Put::All => {}
-        Put::Failed => return Put::Failed,
-    }
-    match print_opening(sink) {
-        Put::All => {}
-        Put::Failed => return Put::Failed,
-    }
-    match print_packets(servers, packets, sink) {
-        Put::All => sink.flush(),
-        Put::Failed => Put::Failed,
-    }
+    print_head(sink).ok()?;
+    print_skips(skips, sink)?;
+    print_opening(sink)?;
+    print_packets(servers, packets, sink)?;
+    sink.flush().ok()
 }
 
 // Prints the skipped records.
-fn print_skips<K: Sink>(skips: &[(u32, Skip)], sink: &mut K) -> Put
-    ensures bytes { Puts result (K.taken sink.old) (K.taken sink.new) (flat_map skip_text skips.now) }
-    ensures count { K.faults sink.old ≤ K.faults sink.new }
-    ensures failed { result ≡ Failed → Rose (K.faults sink.old) (K.faults sink.new) }
+fn print_skips<K: Sink>(skips: &[(u32, Skip)], sink: &mut K) -> Result<(), WriteFault>
+    ensures { Writes (put_of result) (K.known sink.old) (K.known sink.new) (flat_map skip_text skips.now) }
 {
     for skip in skips {
-        match print_skip(skip.0, skip.1, sink) {
-            Put::All => {}
-            Put::Failed => return Put::Failed,
-        }
+        print_skip(skip.0, skip.1, sink).ok()?;
     }
-    Put::All
+    Ok(())
 }
 
 // Prints the line that gives the virtual address its first pool.
-fn print_opening<K: Sink>(sink: &mut K) -> Put
-    ensures bytes { Puts result (K.taken sink.old) (K.taken sink.new) (line_text opening_line) }
-    ensures count { K.faults sink.old ≤ K.faults sink.new }
-    ensures failed { result ≡ Failed → Rose (K.faults sink.old) (K.faults sink.new) }
+fn print_opening<K: Sink>(sink: &mut K) -> Result<(), WriteFault>
+    ensures { Writes (put_of result) (K.known sink.old) (K.known sink.new) (line_text opening_line) }
 {
     let opening = Line::Given {
         out: 1,
@@ -72,26 +51,21 @@ fn print_opening<K: Sink>(sink: &mut K) -> Put
         version: Version::zero(),
         pool: 1,
     };
-    print(&opening, sink)
+    print(&opening, sink).ok()
 }
 
 // Prints the packets' lines.
-fn print_packets<K: Sink>(servers: u8, packets: &[Packet], sink: &mut K) -> Put
+fn print_packets<K: Sink>(servers: u8, packets: &[Packet], sink: &mut K) -> Result<(), WriteFault>
     requires some { 1 ≤ servers }
-    requires few { length packets.now ≤ 4194304 }
-    ensures bytes { Puts result (K.taken sink.old) (K.taken sink.new) (flat_map line_text (packet_lines servers 2 packets.now)) }
-    ensures count { K.faults sink.old ≤ K.faults sink.new }
-    ensures failed { result ≡ Failed → Rose (K.faults sink.old) (K.faults sink.new) }
+    requires few { length packets.now ≤ most_records }
+    ensures { Writes (put_of result) (K.known sink.old) (K.known sink.new) (flat_map line_text (packet_lines servers 2 packets.now)) }
 {
     let mut tick = 2;
     for packet in packets {
-        match print(&line_of(servers, tick, packet), sink) {
-            Put::All => {}
-            Put::Failed => return Put::Failed,
-        }
+        print(&line_of(servers, tick, packet), sink).ok()?;
         tick += 2;
     }
-    Put::All
+    Ok(())
 }
 
 // The line of a packet that entered at this tick.

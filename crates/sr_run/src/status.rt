@@ -1,14 +1,17 @@
 ghost use Rattle.std.specs.Prelude.{◌≡◌, ◌+◌, ◌≤◌, ◌++◌, length};
 ghost use Rattle.std.specs.Fmt.{decimal};
-ghost use Rattle.sr_io.specs.Faults.{Rose};
-ghost use Rattle.sr_io.specs.Sink.{Puts};
-ghost use Rattle.sr_io.specs.declared.sink.Put.TheVariants as put;
-ghost use Rattle.sr_run.specs.Status.{code_of, status_text, capture_words, clause_word, path_words};
+ghost use Rattle.sr_io.specs.Sink.{Writes};
+ghost use Rattle.sr_run.specs.Capture.{status_without};
+ghost use Rattle.sr_run.specs.Status.{code_of, status_of_log, status_text, capture_words, clause_word, path_words};
+ghost use Rattle.sr_run.specs.declared.status.Status.TheVariants as status;
 
-use sr_io::{Put, Sink};
+use sr_base::Key;
+use sr_io::{Put, Sink, WriteFault};
 use sr_law::Clause;
+use sr_pcap::BeginRefusal;
 use sr_script::ScriptRefusal;
-use sr_text::LineText;
+use sr_text::{LineText, LogRefusal, put_key};
+use std::alloc::AllocError;
 use thiserror::Error;
 
 /// Why a capture was refused.
@@ -60,6 +63,8 @@ pub enum Status {
     WriteFault,
     /// No memory was found; nothing was printed.
     Memory,
+    /// A change waits for this connection's key, which has no plan.
+    Waiting(Key),
     /// An audited log is no text of the grammar, or isn't lawful.
     Breach {
         /// The line of the text, from 1; for `Final` one past the last.
@@ -82,6 +87,7 @@ impl Status {
             Status::ReadFault => 4,
             Status::WriteFault => 5,
             Status::Memory => 6,
+            Status::Waiting(_) => 7,
             Status::Breach { .. } => 8,
         }
     }
@@ -89,9 +95,7 @@ impl Status {
     /// Appends the line that says how the run ended; nothing for `Done`.
     #[tactic(auto, unfolding(crate::specs::Status::status_text))]
     pub fn text<K: Sink>(&self, sink: &mut K) -> Put
-        ensures bytes { Puts result (K.taken sink.old) (K.taken sink.new) (status_text self.now) }
-        ensures count { K.faults sink.old ≤ K.faults sink.new }
-        ensures failed { result ≡ put.Failed → Rose (K.faults sink.old) (K.faults sink.new) }
+        ensures { Writes result (K.known sink.old) (K.known sink.new) (status_text self.now) }
     {
         match self {
             Status::Done => sink.write(b""),
@@ -103,16 +107,61 @@ impl Status {
             Status::ReadFault => sink.write(b"silkroad: read fault\n"),
             Status::WriteFault => sink.write(b"silkroad: write fault\n"),
             Status::Memory => sink.write(b"silkroad: no memory\n"),
+            Status::Waiting(key) => waiting_text(key, sink),
             Status::Breach { line, clause } => breach_text(*line, *clause, sink),
+        }
+    }
+}
+
+impl From<AllocError> for Status {
+    ghost from_gives = { λ _ s. s ≡ status.Memory };
+
+    fn from(_: AllocError) -> Status {
+        Status::Memory
+    }
+}
+
+impl From<WriteFault> for Status {
+    ghost from_gives = { λ _ s. s ≡ status.WriteFault };
+
+    fn from(_: WriteFault) -> Status {
+        Status::WriteFault
+    }
+}
+
+impl From<BeginRefusal> for Status {
+    ghost from_gives = { λ why s. s ≡ status_without why };
+
+    fn from(why: BeginRefusal) -> Status {
+        match why {
+            BeginRefusal::Truncated { offset } => Status::Capture(CaptureRefusal::Cut { offset }),
+            BeginRefusal::Magic => Status::Capture(CaptureRefusal::Magic),
+            BeginRefusal::Major => Status::Capture(CaptureRefusal::Major),
+            BeginRefusal::LinkType => Status::Capture(CaptureRefusal::LinkType),
+            BeginRefusal::ReadFault => Status::ReadFault,
+            BeginRefusal::Memory => Status::Memory,
+        }
+    }
+}
+
+impl From<LogRefusal> for Status {
+    ghost from_gives = { λ why s. s ≡ status_of_log why };
+
+    fn from(why: LogRefusal) -> Status {
+        match why {
+            LogRefusal::BadLine { number } => Status::Breach {
+                line: number,
+                clause: Clause::Text,
+            },
+            LogRefusal::ReadFault => Status::ReadFault,
+            LogRefusal::Memory => Status::Memory,
         }
     }
 }
 
 // Appends the line that says why a script was refused, and where.
 fn script_text<K: Sink>(refusal: &ScriptRefusal, sink: &mut K) -> Put
-    ensures bytes { Puts result (K.taken sink.old) (K.taken sink.new) (status_text (Status.Script refusal.now)) }
-    ensures count { K.faults sink.old ≤ K.faults sink.new }
-    ensures failed { result ≡ put.Failed → Rose (K.faults sink.old) (K.faults sink.new) }
+    ensures { Writes result (K.known sink.old) (K.known sink.new) (status_text (Status.Script refusal.now)) }
 {
     match write_both(b"silkroad: script: ", refusal.why.word().as_bytes(), sink) {
         Put::All => path_text(refusal.path.as_bytes(), sink),
@@ -122,9 +171,7 @@ fn script_text<K: Sink>(refusal: &ScriptRefusal, sink: &mut K) -> Put
 
 // Appends where a script is at fault, and the line's end.
 fn path_text<K: Sink>(path: &[u8], sink: &mut K) -> Put
-    ensures bytes { Puts result (K.taken sink.old) (K.taken sink.new) (path_words path.now) }
-    ensures count { K.faults sink.old ≤ K.faults sink.new }
-    ensures failed { result ≡ put.Failed → Rose (K.faults sink.old) (K.faults sink.new) }
+    ensures { Writes result (K.known sink.old) (K.known sink.new) (path_words path.now) }
 {
     match path {
         [] => sink.write(b"\n"),
@@ -137,9 +184,7 @@ fn path_text<K: Sink>(path: &[u8], sink: &mut K) -> Put
 
 // Appends these bytes, and then those.
 fn write_both<K: Sink>(first: &[u8], second: &[u8], sink: &mut K) -> Put
-    ensures bytes { Puts result (K.taken sink.old) (K.taken sink.new) (first.now ++ second.now) }
-    ensures count { K.faults sink.old ≤ K.faults sink.new }
-    ensures failed { result ≡ put.Failed → Rose (K.faults sink.old) (K.faults sink.new) }
+    ensures { Writes result (K.known sink.old) (K.known sink.new) (first.now ++ second.now) }
 {
     match sink.write(first) {
         Put::All => sink.write(second),
@@ -147,12 +192,21 @@ fn write_both<K: Sink>(first: &[u8], second: &[u8], sink: &mut K) -> Put
     }
 }
 
+// Appends the line that says for which key a change waits.
+#[tactic(auto, unfolding(crate::specs::Status::status_text))]
+fn waiting_text<K: Sink>(key: &Key, sink: &mut K) -> Put
+    ensures { Writes result (K.known sink.old) (K.known sink.new) (status_text (Status.Waiting key.now)) }
+{
+    let mut text = LineText::new();
+    put_key(key, &mut text);
+    text.word(b"silkroad: waiting for ");
+    sink.write(text.bytes())
+}
+
 // Appends the line that says which line of a log breaks what.
 #[tactic(auto, unfolding(crate::specs::Status::status_text))]
 fn breach_text<K: Sink>(line: u64, clause: Clause, sink: &mut K) -> Put
-    ensures bytes { Puts result (K.taken sink.old) (K.taken sink.new) (status_text (Status.Breach line clause)) }
-    ensures count { K.faults sink.old ≤ K.faults sink.new }
-    ensures failed { result ≡ put.Failed → Rose (K.faults sink.old) (K.faults sink.new) }
+    ensures { Writes result (K.known sink.old) (K.known sink.new) (status_text (Status.Breach line clause)) }
 {
     let mut text = LineText::new();
     text.word(clause_word(clause));
@@ -183,9 +237,7 @@ fn clause_word(clause: Clause) -> &'static [u8]
 // Appends the line that says why a capture was refused.
 #[tactic(auto, unfolding(crate::specs::Status::status_text))]
 fn capture_text<K: Sink>(why: CaptureRefusal, sink: &mut K) -> Put
-    ensures bytes { Puts result (K.taken sink.old) (K.taken sink.new) (status_text (Status.Capture why)) }
-    ensures count { K.faults sink.old ≤ K.faults sink.new }
-    ensures failed { result ≡ put.Failed → Rose (K.faults sink.old) (K.faults sink.new) }
+    ensures { Writes result (K.known sink.old) (K.known sink.new) (status_text (Status.Capture why)) }
 {
     let mut text = LineText::new();
     put_capture(why, &mut text);

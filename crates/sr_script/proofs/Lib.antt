@@ -9,3 +9,4 @@ pub mod Law
 pub mod NotToml
 pub mod Parsing
 pub mod Fitting
+pub mod FittingLists

@@ -1,9 +1,8 @@
 -- What a script says, and the words that both the schema and the walk through a script's tree speak in.
-use Rattle.std.specs.Prelude.{ℕ, Bool, false, ◌-◌, ◌==◌, ◌&&◌, List, [], ◌∷◌, codes, length, map, option_map, unwrap_or, slice_get}
+use Rattle.std.specs.Prelude.{ℕ, Bool, ◌-◌, ◌==◌, ◌&&◌, List, [], ◌∷◌, codes, length, map, option_map, unwrap_or, slice_get}
 use Rattle.sr_base.specs.declared.shape.Shape.{Shape}
 use Rattle.sr_base.specs.declared.change.Change.{Change}
-use Rattle.sr_base.specs.declared.change.What.{What}
-use Rattle.sr_base.specs.declared.change.What.TheVariants.{Give, TakeDown}
+pub use Rattle.sr_base.specs.Fitting.{takes_down}
 
 -- an address and a port
 abbrev pub Address : Type 0
@@ -57,8 +56,3 @@ pools_of = map (λ v. v.1)
 -- when the last change is due, in milliseconds of the capture, or 0
 abbrev pub last_ms : List Change → ℕ
 last_ms before = unwrap_or (option_map (λ c. c.at_ms) (slice_get before (length before - 1))) 0
-
--- whether a change takes the server down
-abbrev pub takes_down : ℕ → What → Bool
-takes_down server (Give vip pool) = false
-takes_down server (TakeDown other) = other == server

@@ -40,7 +40,7 @@ pub fn parse(alloc: Global, bytes: &[u8]) -> Result<Script, ParseRefusal>
     ensures schema { IfOk result (IsSpelled bytes.now) }
     ensures takes { TakesScripts bytes.now result }
     ensures not_toml { NotTomlIsTrue bytes.now result }
-    // A script's numbers are those of a layout.
+    // A script's numbers are those of a layout, which its first pools and its changes fit.
     ensures fitting { IfOk result (λ s. IsFitting (spelled s)) }
 {
     read(alloc, bytes)

@@ -241,7 +241,7 @@ counted_rivals shape way k key es u apart = by (is_registered key es) refl
         list_any-append (is_rival shape way k) es (fresh key 0 0 ∷ [])
         ∙ ap (λ b. is_clashing shape way k es || b) (fresh_rival (same_key k key) (clashes shape way k key) apart)
 
-find_alike : (p q : Place → Bool) (places : List Place) → ((x : Place) → p x ≡ q x) → find p places ≡ find q places
+pub find_alike : (p q : Place → Bool) (places : List Place) → ((x : Place) → p x ≡ q x) → find p places ≡ find q places
 find_alike p q [] h = refl
 find_alike p q (x ∷ xs) h = ap (λ b. cond b (Some x) (find p xs)) (h x) ∙ ap (λ r. cond (q x) (Some x) r) (find_alike p q xs h)
 

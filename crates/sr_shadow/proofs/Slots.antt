@@ -10,7 +10,7 @@ use Rattle.std.specs.Map.{keys_of, lookup, set_value}
 use Rattle.std.specs.Prelude.{slice_get, option_to_list}
 use Rattle.indexmap.specs.Layout.{set_value_at}
 use Rattle.sr_marks.specs.Marks.{count_set, nth_set, next_set}
-use Rattle.sr_shadow.specs.Entry.{is_pending, is_placed}
+use Rattle.sr_shadow.specs.Entry.{is_pending, is_placed, may_retire}
 use Rattle.sr_shadow.specs.Roll.{entries_in, kept, entry_at, entry_found, passes, HasNumber, Rising, AreMarks}
 use Rattle.sr_shadow.specs.declared.entry.Entry.{Entry}
 
@@ -146,22 +146,24 @@ marks_set test [] after s t = refl
 marks_set test (x ∷ before) after s t = ap (λ ms. test x ∷ ms) (marks_set test before after s t)
 
 -- marks that keep in step
-pub marked_more : (ins waiting live : List Bool) (slots : List (ℕ × Option Entry)) (s : ℕ × Option Entry) → AreMarks ins waiting live slots
-    → AreMarks (ins ++ is_some s.1 ∷ []) (waiting ++ passes is_pending s.1 ∷ []) (live ++ passes is_placed s.1 ∷ []) (slots ++ s ∷ [])
-marked_more ins waiting live slots s h =
+pub marked_more : (lives : ℕ) (ins waiting live over : List Bool) (slots : List (ℕ × Option Entry)) (s : ℕ × Option Entry) → AreMarks lives ins waiting live over slots
+    → AreMarks lives (ins ++ is_some s.1 ∷ []) (waiting ++ passes is_pending s.1 ∷ []) (live ++ passes is_placed s.1 ∷ []) (over ++ passes (may_retire lives) s.1 ∷ []) (slots ++ s ∷ [])
+marked_more lives ins waiting live over slots s h =
     record {
       filled = ap (λ ms. ms ++ is_some s.1 ∷ []) h.filled ∙ sym (map-append (λ x. is_some x.1) slots (s ∷ []));
       pending = ap (λ ms. ms ++ passes is_pending s.1 ∷ []) h.pending ∙ sym (map-append (λ x. passes is_pending x.1) slots (s ∷ []));
       placed = ap (λ ms. ms ++ passes is_placed s.1 ∷ []) h.placed ∙ sym (map-append (λ x. passes is_placed x.1) slots (s ∷ []));
+      retirable = ap (λ ms. ms ++ passes (may_retire lives) s.1 ∷ []) h.retirable ∙ sym (map-append (λ x. passes (may_retire lives) x.1) slots (s ∷ []));
     }
 
-pub marked_set : (ins waiting live : List Bool) (before after : List (ℕ × Option Entry)) (s t : ℕ × Option Entry) (at : ℕ) → at ≡ length before → AreMarks ins waiting live (before ++ s ∷ after)
-    → AreMarks (set ins at (is_some t.1)) (set waiting at (passes is_pending t.1)) (set live at (passes is_placed t.1)) (before ++ t ∷ after)
-marked_set ins waiting live before after s t at is h =
+pub marked_set : (lives : ℕ) (ins waiting live over : List Bool) (before after : List (ℕ × Option Entry)) (s t : ℕ × Option Entry) (at : ℕ) → at ≡ length before → AreMarks lives ins waiting live over (before ++ s ∷ after)
+    → AreMarks lives (set ins at (is_some t.1)) (set waiting at (passes is_pending t.1)) (set live at (passes is_placed t.1)) (set over at (passes (may_retire lives) t.1)) (before ++ t ∷ after)
+marked_set lives ins waiting live over before after s t at is h =
     record {
       filled = rw (is, h.filled) (marks_set (λ x. is_some x.1) before after s t);
       pending = rw (is, h.pending) (marks_set (λ x. passes is_pending x.1) before after s t);
       placed = rw (is, h.placed) (marks_set (λ x. passes is_placed x.1) before after s t);
+      retirable = rw (is, h.retirable) (marks_set (λ x. passes (may_retire lives) x.1) before after s t);
     }
 
 -- the lowest numbers

@@ -5,7 +5,7 @@ use Rattle.sr_base.specs.Key.{KeyView, IsKey, same_key}
 use Rattle.sr_base.specs.declared.place.Place.{Place}
 use Rattle.sr_base.specs.declared.shape.Shape.{Shape}
 use Rattle.sr_hash.specs.Clash.{clashes}
-use Rattle.sr_shadow.specs.Entry.{is_of, is_pending, is_placed, is_outside, holds, times_held, has_version, stands_in, fresh, closed, settled, left_other, swept}
+use Rattle.sr_shadow.specs.Entry.{is_of, is_pending, is_placed, is_outside, holds, times_held, has_version, stands_in, fresh, closed, settled, left_other, swept, may_retire}
 use Rattle.sr_shadow.specs.declared.book.Book.{Book}
 use Rattle.sr_shadow.specs.declared.entry.Entry.{Entry}
 
@@ -24,6 +24,10 @@ pending_from number entries = find (λ e. nat_le number e.taken && is_pending e)
 -- the first entry with a Live place, of those taken from this number on
 abbrev pub placed_from : ℕ → List Entry → Option Entry
 placed_from number entries = find (λ e. nat_le number e.taken && is_placed e) entries
+
+-- the first entry that may be retired, where a connection has so many lives
+abbrev pub first_retirable : ℕ → List Entry → Option Entry
+first_retirable lives entries = find (may_retire lives) entries
 
 -- the entry that has the place, as the Live one or as the one that it is about to leave
 abbrev pub holder_entry : Place → List Entry → Option Entry

@@ -1,5 +1,5 @@
 -- An entry of the book, and what becomes of it.
-use Rattle.std.specs.Prelude.{ℕ, ◌+◌, min, Bool, true, false, cond, ◌&&◌, ◌||◌, ◌==◌, not, is_some, is_none, if◌then◌else◌, Option, Some, None}
+use Rattle.std.specs.Prelude.{ℕ, ◌+◌, min, Bool, true, false, cond, ◌&&◌, ◌||◌, ◌==◌, nat_le, not, is_some, is_none, if◌then◌else◌, Option, Some, None}
 use Rattle.sr_base.specs.Key.{KeyView, same_key}
 use Rattle.sr_base.specs.Place.{same_place}
 use Rattle.sr_base.specs.declared.place.Place.{Place}
@@ -84,3 +84,12 @@ quiet_after hit (Some n) = if hit then 0 else min 255 (n + 1)
 -- a sweep went by its place, which was hit before or wasn't
 abbrev pub swept : Bool → Entry → Entry
 swept hit e = record e { quiet = Some (quiet_after hit e.quiet) }
+
+-- so many quiet sweeps end a connection: the number of lives, or one where a Close was taken for it
+abbrev pub is_over : ℕ → Bool → Option ℕ → Bool
+is_over lives closed None = false
+is_over lives closed (Some quiet) = nat_le lives quiet || (closed && nat_le 1 quiet)
+
+-- the entry may be retired: it has a Live place, and was quiet long enough
+abbrev pub may_retire : ℕ → Entry → Bool
+may_retire lives e = is_placed e && is_over lives e.closed e.quiet

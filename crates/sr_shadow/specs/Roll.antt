@@ -1,6 +1,6 @@
 -- The entries in the order of taking, as slots: each has the number of its entry, and the entry, or nothing once that is out.
 use Rattle.std.specs.Prelude.{◌≡◌, ℕ, ◌+◌, ◌≤◌, min, Bool, false, List, [], ◌∷◌, ◌++◌, option_to_list, map, filter, filter_map, take, is_some, Option, None, Some, slice_get, option_and_then}
-use Rattle.sr_shadow.specs.Entry.{is_pending, is_placed}
+use Rattle.sr_shadow.specs.Entry.{is_pending, is_placed, may_retire}
 use Rattle.sr_shadow.specs.declared.entry.Entry.{Entry}
 use Rattle.sr_shadow.specs.declared.slot_marks.SlotMarks.{SlotMarks}
 
@@ -36,25 +36,27 @@ abbrev pub Rising : ℕ → List (ℕ × Option Entry) → ℕ → Type 0
 Rising low [] high = low ≤ high
 Rising low (s ∷ slots) high = (low ≤ s.0) × HasNumber s.0 s.1 × Rising (s.0 + 1) slots high
 
--- marks of the slots whose entries are in, in without a Live place, in with one
-pub record AreMarks (ins waiting live : List Bool) (slots : List (ℕ × Option Entry)) : Type 0 where
+-- marks of the slots whose entries are in, in without a Live place, in with one, in and may be retired after so many lives
+pub record AreMarks (lives : ℕ) (ins waiting live over : List Bool) (slots : List (ℕ × Option Entry)) : Type 0 where
   pub filled : ins ≡ map (λ s. is_some s.1) slots
   pub pending : waiting ≡ map (λ s. passes is_pending s.1) slots
   pub placed : live ≡ map (λ s. passes is_placed s.1) slots
+  pub retirable : over ≡ map (λ s. passes (may_retire lives) s.1) slots
 
 -- these marks are those of the slots
 abbrev pub Marked : SlotMarks → List (ℕ × Option Entry) → Type 0
-Marked s slots = AreMarks s.filled.marks s.pending.marks s.placed.marks slots
+Marked s slots = AreMarks s.lives s.filled.marks s.pending.marks s.placed.marks s.retirable.marks slots
 
 -- it takes one more slot without memory
 abbrev pub marks_room : SlotMarks → ℕ
-marks_room s = min s.filled.room (min s.pending.room s.placed.room)
+marks_room s = min s.filled.room (min s.pending.room (min s.placed.room s.retirable.room))
 
--- the roll: the entries in, how many were ever taken, how many more go in without memory
+-- the roll: the entries in, how many were ever taken, how many more go in without memory, how many lives a connection has
 pub record RollView : Type 0 where
   pub entries : List Entry
   pub taken : ℕ
   pub room : ℕ
+  pub lives : ℕ
 
 -- what holds of a roll's parts
 pub record IsRoll (slots : List (ℕ × Option Entry)) (marks : SlotMarks) (taken : ℕ) : Type 0 where

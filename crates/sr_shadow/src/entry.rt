@@ -1,5 +1,5 @@
 ghost use Rattle.std.specs.Prelude.{◌≡◌, cond};
-ghost use Rattle.sr_shadow.specs.Entry.{holds, is_at, is_outside, quiet_after, stands_in};
+ghost use Rattle.sr_shadow.specs.Entry.{holds, is_at, is_outside, is_over, may_retire, quiet_after, stands_in};
 
 use sr_base::{Key, Place, Version};
 
@@ -31,11 +31,29 @@ impl Entry {
         is_place(self.place, place)
     }
 
+    /// Whether the entry may be retired, where a connection has so many lives: it has a Live place, and so many sweeps in a row found it quiet, or
+    /// one where a Close was taken for it.
+    pub fn may_retire(&self, lives: u8) -> bool
+        ensures { result ≡ may_retire lives self.now }
+    {
+        self.place.is_some() && is_over(lives, self.closed, self.quiet)
+    }
+
     /// Whether the entry holds the place, as the Live one or as the one that it is about to leave.
     pub fn holds(&self, place: Place) -> bool
         ensures { result ≡ holds place self.now }
     {
         self.is_at(place) || is_place(self.also, place)
+    }
+}
+
+// Whether so many quiet sweeps end a connection that has so many lives, and for which a Close was taken or wasn't.
+fn is_over(lives: u8, closed: bool, quiet: Option<u8>) -> bool
+    ensures { result ≡ is_over lives closed quiet }
+{
+    match quiet {
+        None => false,
+        Some(quiet) => lives <= quiet || (closed && 1 <= quiet),
     }
 }
 

@@ -1,6 +1,6 @@
 ghost use Rattle.std.specs.Prelude.{◌≡◌, ◌+◌, ◌^◌, ◌<◌, ◌≤◌, ◌&&◌, ◌∷◌, ◌++◌, ℕ, List, [], Option, Some, None, true, false, is_some, nat_le, nat_lt, find, filter, length, drop, slice_get, option_copied, min, IfOk, OnOk};
 ghost use Rattle.std.specs.List.Sorted.{IsPartitionPoint};
-ghost use Rattle.sr_shadow.specs.Entry.{is_pending, is_placed};
+ghost use Rattle.sr_shadow.specs.Entry.{is_pending, is_placed, may_retire};
 ghost use Rattle.sr_shadow.specs.Roll.{entries_in, entry_at, HasEntry, HasNumber, Replaces, kept, Rising, Marked};
 ghost use Rattle.sr_shadow.specs.declared.entry.Entry.{Entry as AnEntry};
 
@@ -28,20 +28,21 @@ impl Model for Roll {
 
     ghost Value = { RollView };
 
-    ghost view = { λ r. record { entries = entries_in r.slots.entries; taken = r.taken; room = min (spare r.slots) (marks_room r.marks) } };
+    ghost view = { λ r. record { entries = entries_in r.slots.entries; taken = r.taken; room = min (spare r.slots) (marks_room r.marks); lives = r.marks.lives } };
 
     ghost invariant = { λ r. IsRoll r.slots.entries r.marks r.taken };
 }
 
 impl Roll {
-    // Without an entry.
-    pub(crate) fn new(alloc: Global) -> Roll
+    // Without an entry, where a connection has so many lives.
+    pub(crate) fn new(alloc: Global, lives: u8) -> Roll
         ensures entries { result.entries ≡ [] }
         ensures taken { result.taken ≡ 0 }
+        ensures lives { result.lives ≡ lives }
     {
         Roll {
             slots: IndexMap::new(alloc),
-            marks: SlotMarks::new(alloc),
+            marks: SlotMarks::new(alloc, lives),
             taken: 0,
         }
     }
@@ -65,6 +66,7 @@ impl Roll {
         ensures entries { self.new.entries ≡ self.old.entries }
         ensures taken { self.new.taken ≡ self.old.taken }
         ensures kept { min additional self.old.room ≤ self.new.room }
+        ensures lives { self.new.lives ≡ self.old.lives }
         ensures room { OnOk result (additional ≤ self.new.room) }
     {
         if self.slots.len() / 2 > self.marks.count() {
@@ -79,8 +81,9 @@ impl Roll {
         ensures entries { self.new.entries ≡ self.old.entries }
         ensures taken { self.new.taken ≡ self.old.taken }
         ensures kept { min additional self.old.room ≤ self.new.room }
+        ensures lives { self.new.lives ≡ self.old.lives }
     {
-        let mut marks = marks_of(alloc, &self.slots)?;
+        let mut marks = marks_of(alloc, &self.slots, self.marks.lives)?;
         marks.reserve(alloc, additional)?;
         self.slots.retain(
             |_number: &u64, slot: &mut Option<Entry>| -> bool
@@ -99,6 +102,7 @@ impl Roll {
         ensures entries { self.new.entries ≡ self.old.entries ++ entry ∷ [] }
         ensures taken { self.new.taken ≡ self.old.taken + 1 }
         ensures room { self.old.room ≤ self.new.room + 1 }
+        ensures lives { self.new.lives ≡ self.old.lives }
     {
         let slot = Some(entry);
         self.marks.push(&slot);
@@ -125,6 +129,7 @@ impl Roll {
         ensures entries { Replaces self.old.entries self.new.entries number slot }
         ensures taken { self.new.taken ≡ self.old.taken }
         ensures room { self.old.room ≤ self.new.room }
+        ensures lives { self.new.lives ≡ self.old.lives }
     {
         match self.slots.get_index_of(&number) {
             Some(at) => {
@@ -164,6 +169,16 @@ impl Roll {
             None => None,
         }
     }
+
+    // The first entry that may be retired.
+    pub(crate) fn first_retirable(&self) -> Option<&Entry>
+        ensures { option_copied result ≡ find (may_retire self.now.lives) self.now.entries }
+    {
+        match self.marks.next_retirable(0) {
+            Some(at) => entry_at(&self.slots, at),
+            None => None,
+        }
+    }
 }
 
 // The entry in a slot.
@@ -188,10 +203,11 @@ fn slot_from(slots: &Slots, number: u64) -> usize
 }
 
 // The marks of the slots that have an entry.
-fn marks_of(alloc: Global, slots: &Slots) -> Result<SlotMarks, AllocError>
-    ensures { IfOk result (λ s. Marked s (filter (λ s. is_some s.1) slots.now.entries)) }
+fn marks_of(alloc: Global, slots: &Slots, lives: u8) -> Result<SlotMarks, AllocError>
+    ensures marked { IfOk result (λ s. Marked s (filter (λ s. is_some s.1) slots.now.entries)) }
+    ensures lives { IfOk result (λ s. s.lives ≡ lives) }
 {
-    let mut marks = SlotMarks::new(alloc);
+    let mut marks = SlotMarks::new(alloc, lives);
     for at in 0..slots.len() {
         keep(alloc, slots, at, &mut marks)?;
     }
@@ -200,7 +216,8 @@ fn marks_of(alloc: Global, slots: &Slots) -> Result<SlotMarks, AllocError>
 
 // One slot more, where it has an entry.
 fn keep(alloc: Global, slots: &Slots, at: usize, marks: &mut SlotMarks) -> Result<(), AllocError>
-    ensures { OnOk result (Marked marks.old (kept at slots.now.entries) → Marked marks.new (kept (at + 1) slots.now.entries)) }
+    ensures marked { OnOk result (Marked marks.old (kept at slots.now.entries) → Marked marks.new (kept (at + 1) slots.now.entries)) }
+    ensures lives { marks.new.lives ≡ marks.old.lives }
 {
     match entry_at(slots, at) {
         Some(entry) => {

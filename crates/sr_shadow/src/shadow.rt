@@ -1,5 +1,5 @@
 ghost use Rattle.std.specs.Prelude.{◌≡◌, ◌≢◌, ◌↔◌, ◌+◌, ◌^◌, ◌<◌, ◌≤◌, ◌∷◌, ◌++◌, List, length, slice_get, find, count_by, true, false, is_some, option_copied, option_to_list, Option, Some, None, IsOk, IfOk, IsTrue, OnOk, OnErr};
-ghost use Rattle.sr_shadow.specs.Book.{entry_for, is_registered, pending_from, placed_from, holder_of, count_of, is_clashing, standing_of, with_changed, with_closed, with_settled, with_left, with_swept, with_retired, CanSettle, CanLeave, CanSweep, DistinctKeys, IsBook};
+ghost use Rattle.sr_shadow.specs.Book.{entry_for, first_retirable, is_registered, pending_from, placed_from, holder_of, count_of, is_clashing, standing_of, with_changed, with_closed, with_settled, with_left, with_swept, with_retired, CanSettle, CanLeave, CanSweep, DistinctKeys, IsBook};
 ghost use Rattle.sr_shadow.specs.Entry.{fresh, quiet_after};
 ghost use Rattle.sr_shadow.specs.Rivals.{is_outsider, own_outside};
 ghost use Rattle.sr_shadow.specs.Shadow.{CanNote};
@@ -34,7 +34,7 @@ pub struct Shadow {
 }
 
 impl Model for Shadow {
-    ghost use Rattle.std.specs.Prelude.{nat_eq};
+    ghost use Rattle.std.specs.Prelude.{◌≡◌, nat_eq};
     ghost use Rattle.indexmap.specs.IndexMap.{get, spare};
     ghost use Rattle.sr_shadow.specs.Shadow.{IsShadow, HasRoom};
     ghost use Rattle.sr_shadow.specs.ShadowView.{ShadowView};
@@ -44,7 +44,8 @@ impl Model for Shadow {
     ghost view = { λ s. record { layout = s.layout; book = record { entries = s.roll.entries; taken = s.roll.taken }; ready = s.ready } };
 
     ghost invariant = { λ s. IsShadow s.layout s.roll.entries s.roll.taken (get nat_eq s.numbers.map) s.counts (get nat_eq s.first.map) (get nat_eq s.second.map) s.holders.table.items
-        × HasRoom s.ready s.roll.room (spare s.numbers.map) (spare s.first.map) (spare s.second.map) };
+        × HasRoom s.ready s.roll.room (spare s.numbers.map) (spare s.first.map) (spare s.second.map)
+        × (s.roll.lives ≡ s.layout.shape.lives) };
 }
 
 impl Shadow {
@@ -56,7 +57,7 @@ impl Shadow {
         let holders = Holders::new(alloc, layout)?;
         Ok(Shadow {
             layout: *layout,
-            roll: Roll::new(alloc),
+            roll: Roll::new(alloc, layout.shape().lives),
             numbers: KeyNumbers::new(alloc),
             counts,
             first: Rivals::new(alloc),
@@ -99,6 +100,14 @@ impl Shadow {
         ensures { option_copied result ≡ placed_from number self.now.book.entries }
     {
         self.roll.first_placed(number)
+    }
+
+    /// The first entry, in the order of taking, that may be retired: it has a Live place, and as many sweeps in a row as the layout's shape gives lives
+    /// found it quiet, or one where a Close was taken for it.
+    pub fn first_retirable(&self) -> Option<&Entry>
+        ensures { option_copied result ≡ first_retirable self.now.layout.shape.lives self.now.book.entries }
+    {
+        self.roll.first_retirable()
     }
 
     /// The key's entry. None where it isn't registered.

@@ -1,5 +1,5 @@
 ghost use Rattle.std.specs.Prelude.{◌≡◌, ◌+◌, ◌<◌, ◌≤◌, ◌∷◌, ◌++◌, ℕ, List, [], Option, find, length, drop, slice_get, OnOk};
-ghost use Rattle.sr_shadow.specs.Entry.{is_pending, is_placed};
+ghost use Rattle.sr_shadow.specs.Entry.{is_pending, is_placed, may_retire};
 ghost use Rattle.sr_shadow.specs.Roll.{entries_in, entry_found, passes, marks_room, Marked};
 ghost use Rattle.sr_shadow.specs.declared.entry.Entry.{Entry as AnEntry};
 
@@ -7,23 +7,28 @@ use crate::Entry;
 use sr_marks::Marks;
 use std::alloc::{AllocError, Global};
 
-// Which slots have an entry, one without a Live place, one with a Live place.
+// Which slots have an entry, one without a Live place, one with a Live place, one that may be retired, where a connection has so many lives.
 #[derive(Drop)]
 pub(crate) struct SlotMarks {
+    pub(crate) lives: u8,
     pub(crate) filled: Marks,
     pub(crate) pending: Marks,
     pub(crate) placed: Marks,
+    pub(crate) retirable: Marks,
 }
 
 impl SlotMarks {
     // Of no slot.
-    pub(crate) fn new(alloc: Global) -> SlotMarks
-        ensures { Marked result [] }
+    pub(crate) fn new(alloc: Global, lives: u8) -> SlotMarks
+        ensures marked { Marked result [] }
+        ensures lives { result.lives ≡ lives }
     {
         SlotMarks {
+            lives,
             filled: Marks::new(alloc),
             pending: Marks::new(alloc),
             placed: Marks::new(alloc),
+            retirable: Marks::new(alloc),
         }
     }
 
@@ -32,12 +37,15 @@ impl SlotMarks {
         ensures filled { self.new.filled.marks ≡ self.old.filled.marks }
         ensures pending { self.new.pending.marks ≡ self.old.pending.marks }
         ensures placed { self.new.placed.marks ≡ self.old.placed.marks }
+        ensures retirable { self.new.retirable.marks ≡ self.old.retirable.marks }
+        ensures lives { self.new.lives ≡ self.old.lives }
         ensures more { marks_room self.old ≤ marks_room self.new }
         ensures room { OnOk result (additional ≤ marks_room self.new) }
     {
         self.filled.reserve(alloc, additional)?;
         self.pending.reserve(alloc, additional)?;
-        self.placed.reserve(alloc, additional)
+        self.placed.reserve(alloc, additional)?;
+        self.retirable.reserve(alloc, additional)
     }
 
     // One slot more.
@@ -45,10 +53,12 @@ impl SlotMarks {
         requires { 0 < marks_room self.old }
         ensures marked { (slots : List (ℕ × Option AnEntry)) (number : ℕ) → Marked self.old slots → Marked self.new (slots ++ (number, slot.now) ∷ []) }
         ensures room { marks_room self.old ≤ marks_room self.new + 1 }
+        ensures lives { self.new.lives ≡ self.old.lives }
     {
         self.filled.push(slot.is_some());
         self.pending.push(is_pending(slot));
         self.placed.push(is_placed(slot));
+        self.retirable.push(may_retire(self.lives, slot));
     }
 
     // Something else in a slot.
@@ -58,10 +68,12 @@ impl SlotMarks {
             → Marked self.old (before ++ s ∷ after)
             → Marked self.new (before ++ (number, slot.now) ∷ after) }
         ensures room { marks_room self.new ≡ marks_room self.old }
+        ensures lives { self.new.lives ≡ self.old.lives }
     {
         self.filled.set(at, slot.is_some());
         self.pending.set(at, is_pending(slot));
         self.placed.set(at, is_placed(slot));
+        self.retirable.set(at, may_retire(self.lives, slot));
     }
 
     // How many slots have an entry.
@@ -91,6 +103,13 @@ impl SlotMarks {
     {
         self.placed.next(from)
     }
+
+    // Where the first entry that may be retired is, from a slot on.
+    pub(crate) fn next_retirable(&self, from: usize) -> Option<usize>
+        ensures { (slots : List (ℕ × Option AnEntry)) → Marked self.now slots → find (may_retire self.now.lives) (entries_in (drop from slots)) ≡ entry_found result slots }
+    {
+        self.retirable.next(from)
+    }
 }
 
 // Whether the slot has an entry without a Live place.
@@ -109,6 +128,16 @@ fn is_placed(slot: &Option<Entry>) -> bool
 {
     match slot {
         Some(entry) => entry.place.is_some(),
+        None => false,
+    }
+}
+
+// Whether the slot has an entry that may be retired after so many lives.
+fn may_retire(lives: u8, slot: &Option<Entry>) -> bool
+    ensures { result ≡ passes (may_retire lives) slot.now }
+{
+    match slot {
+        Some(entry) => entry.may_retire(lives),
         None => false,
     }
 }

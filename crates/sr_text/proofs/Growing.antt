@@ -7,19 +7,18 @@ use Rattle.std.specs.List.{flat_map}
 use Rattle.std.proofs.lemmas.List.{flat_map_more, length-append, take_at, take-append-le, take-append-drop, append-nil}
 use Rattle.std.proofs.lemmas.List.Elements.{All-push}
 use Rattle.sr_frame.specs.declared.skip.Skip.{Skip}
+use Rattle.sr_io.specs.Window.{IsFilled, Pending, WindowView, new_window, passed_over}
+use Rattle.sr_io.proofs.Reading.{pending_new}
 use Rattle.sr_law.specs.declared.line.Line.{Line}
 use Rattle.sr_text.specs.LineText.{head_text, line_text, skip_text, log_text}
 use Rattle.sr_text.specs.Ranges.{IsLine}
 use Rattle.sr_text.specs.Log.{IsLog, LineNext, SkipNext, GoesOn, IsFirstBad, IsRead, Reads, ReadsBack, line_count, most_lines}
-use Rattle.sr_text.specs.Window.{IsFull, Pending, WindowView}
-use Rattle.sr_text.specs.Adding.{Adds, AddsTo, Bodies, Heads, TakesOne, Reached, Strays}
+use Rattle.sr_text.specs.Adding.{Adds, AddsTo, Bodies, Finds, Grows, Heads, TakesOne, Reached, Strays}
 use Rattle.sr_text.specs.Fronts.{after_word}
 use Rattle.sr_text.specs.declared.log_refusal.LogRefusal.{LogRefusal}
 use Rattle.sr_text.specs.declared.log_refusal.LogRefusal.TheVariants.{BadLine, ReadFault, Memory}
 use Rattle.sr_text.proofs.Words.{after_word_there, after_word_takes}
 use Rattle.sr_text.proofs.Logs.{one_log, none_bad}
-use Rattle.sr_text.specs.declared.adding.Added.{Added}
-use Rattle.sr_text.specs.declared.adding.Added.TheVariants as added
 use Rattle.sr_text.proofs.Lengths.{line_length, skip_length}
 
 pub empty : (l : List ℕ) → length l ≡ 0 → l ≡ []
@@ -35,8 +34,8 @@ log_line ss ls one =
 pub with_line : (ss : List (ℕ × Skip)) (ls : List Line) (one : Line) → IsLine one → IsLog ss ls → IsLog ss (ls ++ one ∷ [])
 with_line ss ls one h log = record { each_skip = log.each_skip; each_line = All-push IsLine ls one log.each_line h }
 
-pub adds_plain : (r : Added) (old mid new : WindowView) (ss ts : List (ℕ × Skip)) (ls ms : List Line) → AddsTo line_text IsLine LineNext r mid new ls ms → mid ≡ old → ts ≡ ss → (ls ≡ [] → SkipNext old.unread → ⊥) → Adds r old new ss ls ts ms
-adds_plain added.Line old mid new ss ts ls ms t same skips none =
+pub adds_plain : {E : Type 0} (r : Result Bool E) (old mid new : WindowView) (ss ts : List (ℕ × Skip)) (ls ms : List Line) → AddsTo line_text IsLine LineNext r mid new ls ms → mid ≡ old → ts ≡ ss → (ls ≡ [] → SkipNext old.unread → ⊥) → Adds r old new ss ls ts ms
+adds_plain (Ok true) old mid new ss ts ls ms t same skips none =
     let counted = ap (λ (l : List (ℕ × Skip)). length l) skips in
     let added = ap (λ (l : List Line). length l) t.list in
     record {
@@ -47,7 +46,7 @@ adds_plain added.Line old mid new ss ts ls ms t same skips none =
       numbers = λ log. subst (λ (l : List (ℕ × Skip)). IsLog l ms) (sym skips) (subst (λ (l : List Line). IsLog ss l) (sym t.list) (with_line ss ls t.one t.within log));
       count = omega (arith, length-append ls (t.one ∷ []));
     }
-adds_plain added.Nothing old mid new ss ts ls ms t same skips none = (
+adds_plain (Ok false) old mid new ss ts ls ms t same skips none = (
   λ g. elim g [
     | inl n ↦ t.0 (subst (λ (w : WindowView). LineNext w.unread) (sym same) n)
     | inr p ↦ none p.0 p.1
@@ -56,7 +55,7 @@ adds_plain added.Nothing old mid new ss ts ls ms t same skips none = (
   skips,
   t.2,
 )
-adds_plain added.Memory old mid new ss ts ls ms t same skips none = tt
+adds_plain (Err e) old mid new ss ts ls ms t same skips none = tt
 
 -- what is next in all the bytes that are to come is next in a full window
 pub front_of : (text more unread rest : List ℕ) → length text ≤ length unread → unread ++ rest ≡ text ++ more → unread ≡ text ++ drop (length text) unread
@@ -74,7 +73,7 @@ full_skip unread rest h n =
     let short = skip_length n.0 n.2.0 in
     (n.0, drop (length (skip_text n.0)) unread, (n.2.0, front_of (skip_text n.0) n.1 unread rest (omega arith) n.2.1))
 
-pub full_goes_on : (ls : List Line) (w : WindowView) (left : Option (List ℕ)) (bytes : List ℕ) → IsFull w → Pending w left bytes → GoesOn ls bytes → GoesOn ls w.unread
+pub full_goes_on : (ls : List Line) (w : WindowView) (left : Option (List ℕ)) (bytes : List ℕ) → IsFilled w 200 → Pending w left bytes → GoesOn ls bytes → GoesOn ls w.unread
 full_goes_on ls w left bytes (inl long) p g =
     elim (subst (GoesOn ls) p.whole g) [
       | inl n ↦ inl (full_line w.unread p.rest long n)
@@ -90,7 +89,7 @@ pub some_left : (l m : List ℕ) (b : Bool) → l ≡ m → b ≡ (length l == 0
 some_left l m b e t h = let z = ap (λ (x : List ℕ). length x) e in grind (arith, nat_tests)
 
 -- a window without bytes, once it is full, is the end
-pub ended_here : (ss : List (ℕ × Skip)) (ls : List Line) (w : WindowView) (left : Option (List ℕ)) (bytes rest : List ℕ) → IsFull w → length w.unread ≡ 0 → bytes ≡ log_text ss ls ++ rest → Pending w left rest → (bytes ≡ log_text ss ls) × (left ≡ Some [])
+pub ended_here : (ss : List (ℕ × Skip)) (ls : List Line) (w : WindowView) (left : Option (List ℕ)) (bytes rest : List ℕ) → IsFilled w 200 → length w.unread ≡ 0 → bytes ≡ log_text ss ls ++ rest → Pending w left rest → (bytes ≡ log_text ss ls) × (left ≡ Some [])
 ended_here ss ls w left bytes rest (inl long) e text p = absurd (omega arith)
 ended_here ss ls w left bytes rest (inr over) e text p =
     let none = p.none over in
@@ -112,7 +111,7 @@ reached_more old new ss ts ls ms left bytes rest t text p =
     }
 
 -- no line is next
-pub strays_here : (ss ts : List (ℕ × Skip)) (ls ms : List Line) (w : WindowView) (left : Option (List ℕ)) (bytes rest : List ℕ) → IsFull w → 0 < length w.unread → (GoesOn ls w.unread → ⊥) → ts ≡ ss → ms ≡ ls → bytes ≡ log_text ss ls ++ rest → Pending w left rest → Strays ts ms bytes
+pub strays_here : (ss ts : List (ℕ × Skip)) (ls ms : List Line) (w : WindowView) (left : Option (List ℕ)) (bytes rest : List ℕ) → IsFilled w 200 → 0 < length w.unread → (GoesOn ls w.unread → ⊥) → ts ≡ ss → ms ≡ ls → bytes ≡ log_text ss ls ++ rest → Pending w left rest → Strays ts ms bytes
 strays_here ss ts ls ms w left bytes rest full some out es el text p = record {
   rest = rest;
   text = text ∙ ap (λ (l : List (ℕ × Skip)). log_text l ls ++ rest) (sym es) ∙ ap (λ (l : List Line). log_text ts l ++ rest) (sym el);
@@ -139,6 +138,14 @@ bad_here number ss ts ls ms bytes log next within es el s =
       },
     )
 
+-- a line wasn't read
+pub body_not : (why : LogRefusal) (number : ℕ) (ss ts : List (ℕ × Skip)) (ls ms : List Line) (w : WindowView) (left : Option (List ℕ)) (bytes : List ℕ) → IsLog ss ls → number ≡ 1 + line_count ss ls
+    → number ≤ most_lines + 1 → Grows (Err why) number ss ls ts ms → Finds (Err why) ts ms w left bytes → Bodies (Err why) ts ms left bytes
+body_not (BadLine bad) number ss ts ls ms w left bytes log next within grows finds =
+    subst (λ n. IsFirstBad n bytes) (sym grows.0) (bad_here number ss ts ls ms bytes log next within grows.1 grows.2 finds)
+body_not ReadFault number ss ts ls ms w left bytes log next within grows finds = tt
+body_not Memory number ss ts ls ms w left bytes log next within grows finds = tt
+
 -- the line after the last that a log may have
 pub past_here : (ss : List (ℕ × Skip)) (ls : List Line) (w : WindowView) (left : Option (List ℕ)) (bytes : List ℕ) → IsLog ss ls → line_count ss ls ≡ most_lines → 0 < length w.unread → (r : Reached ss ls w left bytes) → IsFirstBad (most_lines + 1) bytes
 past_here ss ls w left bytes log count some r =
@@ -157,7 +164,7 @@ past_here ss ls w left bytes log count some r =
     )
 
 -- the head
-pub no_head : (w : WindowView) (left : Option (List ℕ)) (bytes : List ℕ) → IsFull w → None ≡ after_word head_text w.unread → Pending w left bytes → (rest : List ℕ) → bytes ≡ head_text ++ rest → ⊥
+pub no_head : (w : WindowView) (left : Option (List ℕ)) (bytes : List ℕ) → IsFilled w 200 → None ≡ after_word head_text w.unread → Pending w left bytes → (rest : List ℕ) → bytes ≡ head_text ++ rest → ⊥
 no_head w left bytes (inl long) none p rest e =
     let front = front_of head_text rest w.unread p.rest (omega arith) (sym p.whole ∙ e) in
     let there = after_word_there head_text (drop 11 w.unread) in
@@ -169,7 +176,7 @@ no_head w left bytes (inr over) none p rest e =
     let same = ap (after_word head_text) (sym all ∙ e) in
     cc
 
-pub head_here : (w new : WindowView) (left : Option (List ℕ)) (bytes rest : List ℕ) → Some rest ≡ after_word head_text w.unread → new ≡ record { unread = drop 11 w.unread; over = w.over } → Pending w left bytes → (r : List ℕ) × ((bytes ≡ head_text ++ r) × Pending new left r)
+pub head_here : (w new : WindowView) (left : Option (List ℕ)) (bytes rest : List ℕ) → Some rest ≡ after_word head_text w.unread → new ≡ passed_over 11 w → Pending w left bytes → (r : List ℕ) × ((bytes ≡ head_text ++ r) × Pending new left r)
 head_here w new left bytes rest some is p =
     let at = after_word_takes head_text w.unread rest (sym some) in
     let tail = ap (drop 11) at in
@@ -182,9 +189,8 @@ head_here w new left bytes rest some is p =
     )
 
 -- a new window
-pub new_pending : (w : WindowView) (left : Option (List ℕ)) (bytes : List ℕ) → w ≡ record { unread = []; over = false } → left ≡ Some bytes → Pending w left bytes
-new_pending w left bytes e told =
-    record { rest = bytes; told = told; whole = ap (λ (z : WindowView). z.unread ++ bytes) (sym e); none = λ over. let o = ap (λ (z : WindowView). z.over) e in absurd (cc) }
+pub window_begins : (room : ℕ) (w : WindowView) (left : Option (List ℕ)) (bytes : List ℕ) → w ≡ new_window room → left ≡ Some bytes → Pending w left bytes
+window_begins room w left bytes e told = subst (λ (v : WindowView). Pending v left bytes) (sym e) (pending_new room left bytes told)
 
 pub start_reached : (w : WindowView) (left : Option (List ℕ)) (bytes : List ℕ) → (r : List ℕ) × ((bytes ≡ head_text ++ r) × Pending w left r) → Reached [] [] w left bytes
 start_reached w left bytes h = record { rest = h.0; text = h.1.0; pending = h.1.1 }

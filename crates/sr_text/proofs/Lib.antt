@@ -4,5 +4,4 @@ pub mod Growing
 pub mod Lengths
 pub mod LineTexts
 pub mod Logs
-pub mod Windows
 pub mod Words

@@ -1,14 +1,10 @@
 -- How a log grows line by line.
-use Rattle.std.specs.Prelude.{◌≡◌, ◌≢◌, ℕ, ◌+◌, ◌≤◌, List, [], ◌∷◌, ◌++◌, Option, Some, Result, Ok, Err}
+use Rattle.std.specs.Prelude.{◌≡◌, ◌≢◌, ℕ, ◌+◌, ◌≤◌, List, [], ◌∷◌, ◌++◌, Bool, true, false, Option, Some, Result, Ok, Err}
 use Rattle.sr_frame.specs.declared.skip.Skip.{Skip}
+use Rattle.sr_io.specs.Window.{Pending, WindowView}
 use Rattle.sr_law.specs.declared.line.Line.{Line}
 use Rattle.sr_text.specs.LineText.{head_text, log_text}
 use Rattle.sr_text.specs.Log.{IsLog, GoesOn, IsFirstBad, line_count, most_lines}
-use Rattle.sr_text.specs.Window.{Pending, WindowView}
-use Rattle.sr_text.specs.declared.adding.Added.{Added}
-use Rattle.sr_text.specs.declared.adding.Added.TheVariants as added
-use Rattle.sr_text.specs.declared.reading.Step.{Step}
-use Rattle.sr_text.specs.declared.reading.Step.TheVariants as step
 use Rattle.sr_text.specs.declared.log_refusal.LogRefusal.{LogRefusal}
 use Rattle.sr_text.specs.declared.log_refusal.LogRefusal.TheVariants.{BadLine, ReadFault, Memory}
 
@@ -21,10 +17,10 @@ pub record Takes {A : Type 0} (text : A → List ℕ) (fits : A → Type 0) (old
   pub list : ys ≡ xs ++ one ∷ []
 
 -- A line was added; or none of the kind is next, and all is as it was.
-abbrev pub AddsTo : {A : Type 0} → (A → List ℕ) → (A → Type 0) → (List ℕ → Type 0) → Added → WindowView → WindowView → List A → List A → Type 0
-AddsTo text fits next added.Line old new xs ys = Takes text fits old new xs ys
-AddsTo text fits next added.Nothing old new xs ys = (¬ (next old.unread)) × (new ≡ old) × (ys ≡ xs)
-AddsTo text fits next added.Memory old new xs ys = Unit {0}
+abbrev pub AddsTo : {A E : Type 0} → (A → List ℕ) → (A → Type 0) → (List ℕ → Type 0) → Result Bool E → WindowView → WindowView → List A → List A → Type 0
+AddsTo text fits next (Ok true) old new xs ys = Takes text fits old new xs ys
+AddsTo text fits next (Ok false) old new xs ys = (¬ (next old.unread)) × (new ≡ old) × (ys ≡ xs)
+AddsTo text fits next (Err e) old new xs ys = Unit {0}
 
 -- the same of a log's two lists
 pub record TakesOne (old new : WindowView) (ss : List (ℕ × Skip)) (ls : List Line) (ts : List (ℕ × Skip)) (ms : List Line) : Type 0 where
@@ -36,10 +32,10 @@ pub record TakesOne (old new : WindowView) (ss : List (ℕ × Skip)) (ls : List 
   pub count : line_count ts ms ≡ 1 + line_count ss ls
 
 -- A line was added to one of the two lists; or none that can come next is there, and all is as it was.
-abbrev pub Adds : Added → WindowView → WindowView → List (ℕ × Skip) → List Line → List (ℕ × Skip) → List Line → Type 0
-Adds added.Line old new ss ls ts ms = TakesOne old new ss ls ts ms
-Adds added.Nothing old new ss ls ts ms = (¬ (GoesOn ls old.unread)) × (new ≡ old) × (ts ≡ ss) × (ms ≡ ls)
-Adds added.Memory old new ss ls ts ms = Unit {0}
+abbrev pub Adds : {E : Type 0} → Result Bool E → WindowView → WindowView → List (ℕ × Skip) → List Line → List (ℕ × Skip) → List Line → Type 0
+Adds (Ok true) old new ss ls ts ms = TakesOne old new ss ls ts ms
+Adds (Ok false) old new ss ls ts ms = (¬ (GoesOn ls old.unread)) × (new ≡ old) × (ts ≡ ss) × (ms ≡ ls)
+Adds (Err e) old new ss ls ts ms = Unit {0}
 
 -- a text that begins with that of these lists, up to which it was read
 pub record Reached (ss : List (ℕ × Skip)) (ls : List Line) (w : WindowView) (left : Option (List ℕ)) (bytes : List ℕ) : Type 0 where
@@ -55,20 +51,20 @@ pub record Strays (ss : List (ℕ × Skip)) (ls : List Line) (bytes : List ℕ) 
   pub outside : ¬ (GoesOn ls rest)
 
 -- what was found after these lines
-abbrev pub Finds : Step → List (ℕ × Skip) → List Line → WindowView → Option (List ℕ) → List ℕ → Type 0
-Finds step.More ss ls w left bytes = Reached ss ls w left bytes
-Finds step.End ss ls w left bytes = (bytes ≡ log_text ss ls) × (left ≡ Some [])
-Finds step.Bad ss ls w left bytes = Strays ss ls bytes
-Finds step.Failed ss ls w left bytes = Unit {0}
-Finds step.Memory ss ls w left bytes = Unit {0}
+abbrev pub Finds : Result Bool LogRefusal → List (ℕ × Skip) → List Line → WindowView → Option (List ℕ) → List ℕ → Type 0
+Finds (Ok true) ss ls w left bytes = Reached ss ls w left bytes
+Finds (Ok false) ss ls w left bytes = (bytes ≡ log_text ss ls) × (left ≡ Some [])
+Finds (Err (BadLine number)) ss ls w left bytes = Strays ss ls bytes
+Finds (Err ReadFault) ss ls w left bytes = Unit {0}
+Finds (Err Memory) ss ls w left bytes = Unit {0}
 
--- by a line, or not at all
-abbrev pub Grows : Step → List (ℕ × Skip) → List Line → List (ℕ × Skip) → List Line → Type 0
-Grows step.More ss ls ts ms = (IsLog ss ls → IsLog ts ms) × (line_count ts ms ≡ 1 + line_count ss ls)
-Grows step.End ss ls ts ms = (ts ≡ ss) × (ms ≡ ls)
-Grows step.Bad ss ls ts ms = (ts ≡ ss) × (ms ≡ ls)
-Grows step.Failed ss ls ts ms = Unit {0}
-Grows step.Memory ss ls ts ms = Unit {0}
+-- by a line, which has this number, or not at all
+abbrev pub Grows : Result Bool LogRefusal → ℕ → List (ℕ × Skip) → List Line → List (ℕ × Skip) → List Line → Type 0
+Grows (Ok true) number ss ls ts ms = (IsLog ss ls → IsLog ts ms) × (line_count ts ms ≡ 1 + line_count ss ls)
+Grows (Ok false) number ss ls ts ms = (ts ≡ ss) × (ms ≡ ls)
+Grows (Err (BadLine bad)) number ss ls ts ms = (bad ≡ number) × (ts ≡ ss) × (ms ≡ ls)
+Grows (Err ReadFault) number ss ls ts ms = Unit {0}
+Grows (Err Memory) number ss ls ts ms = Unit {0}
 
 -- the head was read; or it isn't there
 abbrev pub Heads : Result (Unit {0}) LogRefusal → WindowView → Option (List ℕ) → List ℕ → Type 0

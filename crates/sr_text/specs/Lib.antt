@@ -4,4 +4,3 @@ pub mod Fronts
 pub mod LineText
 pub mod Log
 pub mod Ranges
-pub mod Window

@@ -1,6 +1,7 @@
 ghost use Rattle.std.specs.Prelude.{◌≡◌};
-ghost use Rattle.sr_text.specs.declared.log_refusal.LogRefusal.TheVariants.{Memory};
+ghost use Rattle.sr_text.specs.declared.log_refusal.LogRefusal.TheVariants as refusal;
 
+use sr_io::ReadFault;
 use std::alloc::AllocError;
 use thiserror::Error;
 
@@ -22,9 +23,17 @@ pub enum LogRefusal {
 }
 
 impl From<AllocError> for LogRefusal {
-    ghost from_gives = { λ _ e. e ≡ Memory };
+    ghost from_gives = { λ _ e. e ≡ refusal.Memory };
 
     fn from(_: AllocError) -> LogRefusal {
         LogRefusal::Memory
+    }
+}
+
+impl From<ReadFault> for LogRefusal {
+    ghost from_gives = { λ _ e. e ≡ refusal.ReadFault };
+
+    fn from(_: ReadFault) -> LogRefusal {
+        LogRefusal::ReadFault
     }
 }

@@ -1,7 +1,4 @@
-ghost use Rattle.std.specs.Prelude.{◌≡◌, ◌≤◌};
-ghost use Rattle.sr_io.specs.Faults.{Rose};
-ghost use Rattle.sr_io.specs.Sink.{Puts};
-ghost use Rattle.sr_io.specs.declared.sink.Put.TheVariants.{Failed};
+ghost use Rattle.sr_io.specs.Sink.{Writes};
 ghost use Rattle.sr_text.specs.LineText.{head_text, line_text, skip_text};
 
 use crate::line_text::LineText;
@@ -12,18 +9,14 @@ use sr_law::Line;
 
 /// Prints the first line of a log.
 pub fn print_head<K: Sink>(sink: &mut K) -> Put
-    ensures bytes { Puts result (K.taken sink.old) (K.taken sink.new) head_text }
-    ensures count { K.faults sink.old ≤ K.faults sink.new }
-    ensures failed { result ≡ Failed → Rose (K.faults sink.old) (K.faults sink.new) }
+    ensures { Writes result (K.known sink.old) (K.known sink.new) head_text }
 {
     sink.write(b"silkroad 1\n")
 }
 
 /// Prints a line, in one write.
 pub fn print<K: Sink>(line: &Line, sink: &mut K) -> Put
-    ensures bytes { Puts result (K.taken sink.old) (K.taken sink.new) (line_text line.now) }
-    ensures count { K.faults sink.old ≤ K.faults sink.new }
-    ensures failed { result ≡ Failed → Rose (K.faults sink.old) (K.faults sink.new) }
+    ensures { Writes result (K.known sink.old) (K.known sink.new) (line_text line.now) }
 {
     let mut text = LineText::new();
     put_line(line, &mut text);
@@ -32,9 +25,7 @@ pub fn print<K: Sink>(line: &Line, sink: &mut K) -> Put
 
 /// Prints the line of a skipped record: its position in the capture, from 1, and why it was skipped.
 pub fn print_skip<K: Sink>(number: u32, why: Skip, sink: &mut K) -> Put
-    ensures bytes { Puts result (K.taken sink.old) (K.taken sink.new) (skip_text (number, why)) }
-    ensures count { K.faults sink.old ≤ K.faults sink.new }
-    ensures failed { result ≡ Failed → Rose (K.faults sink.old) (K.faults sink.new) }
+    ensures { Writes result (K.known sink.old) (K.known sink.new) (skip_text (number, why)) }
 {
     let mut text = LineText::new();
     put_skip(number, why, &mut text);

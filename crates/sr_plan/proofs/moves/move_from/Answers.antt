@@ -1,8 +1,11 @@
-use Rattle.std.proofs.Common.{refl, sym}
-use Rattle.sr_shadow.proofs.Moving.{slot_mover}
+use Rattle.std.proofs.Common.{ap, sym}
+use Rattle.sr_base.specs.declared.place.Place.TheVariants.{Slot}
+use Rattle.sr_shadow.specs.Plan.{move_at}
+use Rattle.sr_shadow.proofs.Holding.{none_held}
 use Rattle.sr_plan.proofs.moves.move_from.Goals as goal
 
-pub move_of-requires-clause-mover : goal.move_of-requires-clause-mover
-move_of-requires-clause-mover c =
-    slot_mover c.args.shadow.now.book.entries c.args.key c.in-Some.entry.now c.in-Slot.way c.in-Slot.bucket c.in-Slot.cell c.requires.unplaced
-    (sym c.in-Some.ensures.value) (c.in-Some.ensures.own c.in-Some.entry.now refl)
+pub returns-in-None : goal.returns-in-None
+returns-in-None c =
+    let slot = Slot c.in-Slot.way c.in-Slot.bucket c.in-Slot.cell in
+    let es = c.args.shadow.now.book.entries in
+    rw c.in-Slot.is (sym (ap (move_at c.args.layout.now.shape es c.args.key c.in-Slot.way slot) (none_held slot es (sym c.in-None.ensures))))

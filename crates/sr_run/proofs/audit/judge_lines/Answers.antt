@@ -8,7 +8,7 @@ pub check-requires : goal.check-requires
 check-requires c =
     let script = c.args.script.now in
     let fits = fits_pools script.shape script.first.items script.changes.items (length script.servers.items) c.requires.fitting.layout in
-    let pools : c.in-Ok.pools ≡ pools_from 0 script.first.items script.changes.items = c.in-Ok.ensures ∙ ap (λ f. pools_from 0 f c.deref-2.result.now) c.deref.ensures.value ∙ ap (λ h. pools_from 0 script.first.items h) c.deref-2.ensures.value in
+    let pools : c.in_ok-pools.pools ≡ pools_from 0 script.first.items script.changes.items = c.in_ok-pools.ensures ∙ ap (λ f. pools_from 0 f c.deref-2.result.now) c.deref.ensures.value ∙ ap (λ h. pools_from 0 script.first.items h) c.deref-2.ensures.value in
     ap (λ p. limit_of script.shape (length p) c.len.result) pools ∙ ap (λ n. limit_of script.shape (length (pools_from 0 script.first.items script.changes.items)) n) (c.len.ensures ∙ script.servers.ok.0) ∙ fits
 
 pub overflow_add-result-in-Err-Breach : goal.overflow_add-result-in-Err-Breach

@@ -1,11 +1,12 @@
 use Rattle.std.proofs.Common.{◌++◌, codes, subst, ap, ◌∙◌}
-use Rattle.sr_io.specs.Sink.{Puts}
+use Rattle.sr_io.specs.Sink.{Writes}
+use Rattle.sr_io.specs.declared.sink.Put.TheVariants.{All, Failed}
 use Rattle.sr_run.specs.Status.{status_text, capture_words}
 use Rattle.sr_run.proofs.status.capture_text.Goals as goal
 
-pub returns-clause-bytes : goal.returns-clause-bytes
+pub returns : goal.returns
 unfolding status_text
-returns-clause-bytes g c =
+returns g c =
     let words = c.put_capture.ensures.text ∙ ap (capture_words c.args.why) c.new-text.ensures in
     let text = c.bytes.ensures ∙ c.word.ensures.text ∙ ap (λ t. codes "silkroad: capture: " ++ t) words in
-    subst (λ t. Puts c.write.result (g.K.Sink.taken c.args.sink.now) (g.K.Sink.taken c.write.new.self) t) text c.write.ensures.bytes
+    subst (λ t. Writes c.write.result (g.K.Sink.known c.args.sink.now) (g.K.Sink.known c.write.new.self) t) text c.write.ensures

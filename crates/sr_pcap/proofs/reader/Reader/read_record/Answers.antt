@@ -1,20 +1,16 @@
-use Rattle.std.proofs.Common.{◌≤◌, length, sym, ◌∙◌, arith}
-use Rattle.std.proofs.lemmas.List.{take_all}
-use Rattle.sr_pcap.proofs.Reading.{answers_none, answers_cut}
+use Rattle.std.proofs.Common.{◌≡◌, ap, sym, subst, ◌∙◌}
+use Rattle.sr_pcap.specs.Reader.{ReaderView, Answers}
+use Rattle.sr_pcap.specs.declared.next.Next.TheVariants.{Whole}
+use Rattle.sr_pcap.proofs.Reading.{takes_record}
 use Rattle.sr_pcap.proofs.reader.Reader.read_record.Goals as goal
 
-pub returns-in-Full-clause-record : goal.returns-in-Full-clause-record
-returns-in-Full-clause-record g c = λ xs h.
-    let read = c.in-Full.ensures.bytes xs h in
-    let long : length c.fill.new.into ≤ 16 = (let same = c.fill.auto.into in omega arith) in
-    c.read_body.ensures.«record» xs read.2 read.0 (sym (take_all 16 c.fill.new.into long) ∙ read.1)
-
-pub returns-in-Ended-eq0-clause-record : goal.returns-in-Ended-eq0-clause-record
-returns-in-Ended-eq0-clause-record g c = rw (← c.self.view_is) (λ xs h.
-    let read = c.in-Ended-eq0.ensures.bytes xs h in
-    answers_none c.self.inside.format c.self.inside.offset c.end.result xs _ _ c.end.ensures.same (read.0 ∙ c.in-Ended-eq0.field-0-test) read.1)
-
-pub returns-in-Ended-clause-record : goal.returns-in-Ended-clause-record
-returns-in-Ended-clause-record g c = rw (← c.self.view_is) (λ xs h.
-    let read = c.in-Ended.ensures.bytes xs h in
-    answers_cut c.self.inside.format c.self.inside.offset c.end-in-Ended.result c.in-Ended.field-0 xs _ _ c.end-in-Ended.ensures.same read.0 c.in-Ended.field-0-test.1 c.in-Ended.ensures.cut read.1)
+pub returns-in-Ok-clause-record : goal.returns-in-Ok-clause-record
+returns-in-Ok-clause-record g c = λ xs p.
+    let old = c.args.self.now in
+    let header = c.in-Ok.header in
+    let left = (g.S.Source.known c.look.new.source).left in
+    let l = c.in-Ok.ensures.looks xs p in
+    let offset : c.look.new.self.offset ≡ old.offset = ap (λ (r : ReaderView). r.offset) c.look.ensures.same in
+    subst (λ n. Answers n old.format old.offset xs c.take.new.self left) (sym (c.take.ensures.whole ∙ ap (λ o. Whole header.ms o) offset))
+    (takes_record header old.format old.offset c.look.new.self.window xs left c.take.new.self l.0 c.in-Ok.ensures.found.0 l.1
+    (ap (λ (r : ReaderView). r.bytes) c.take.ensures.taken) (ap (λ (r : ReaderView). r.window) c.take.ensures.taken))

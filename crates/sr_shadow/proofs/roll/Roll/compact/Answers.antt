@@ -1,6 +1,7 @@
-use Rattle.std.proofs.Common.{◌≡◌, ap, sym, subst, ◌∙◌, filter, is_some, rules}
+use Rattle.std.proofs.Common.{◌≡◌, ap, sym, subst, ◌∙◌, filter, map, is_some, rules}
 use Rattle.indexmap.proofs.CallerLemmas.{filter-RetainsPairs}
-use Rattle.sr_shadow.specs.Roll.{entries_in, Rising, Marked}
+use Rattle.sr_shadow.specs.Entry.{may_retire}
+use Rattle.sr_shadow.specs.Roll.{entries_in, passes, Rising, Marked}
 use Rattle.sr_shadow.proofs.Slots.{filtered_entries, rising_filtered}
 use Rattle.sr_shadow.proofs.roll.Roll.compact.Goals as goal
 
@@ -10,9 +11,10 @@ invariant_of-self c =
     record {
       rising = subst (λ ss. Rising 0 ss c.self.inside.taken) (sym kept) (rising_filtered 0 c.self.inside.taken c.self.inside.slots.entries c.self.invariant.rising);
       marked = subst (λ ss. Marked c.reserve.new.self ss) (sym kept) (record {
-        filled = c.reserve.ensures.filled ∙ c.in_ok-marks.ensures.filled;
-        pending = c.reserve.ensures.pending ∙ c.in_ok-marks.ensures.pending;
-        placed = c.reserve.ensures.placed ∙ c.in_ok-marks.ensures.placed;
+        filled = c.reserve.ensures.filled ∙ c.in_ok-marks.ensures.marked.filled;
+        pending = c.reserve.ensures.pending ∙ c.in_ok-marks.ensures.marked.pending;
+        placed = c.reserve.ensures.placed ∙ c.in_ok-marks.ensures.marked.placed;
+        retirable = c.reserve.ensures.retirable ∙ c.in_ok-marks.ensures.marked.retirable ∙ ap (λ n. map (λ s. passes (may_retire n) s.1) (filter (λ s. is_some s.1) c.self.inside.slots.entries)) (sym c.reserve.ensures.lives);
       });
     }
 

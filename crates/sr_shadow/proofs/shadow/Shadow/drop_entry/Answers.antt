@@ -34,6 +34,7 @@ invariant_of-self c =
           (shadow_less _ s.front s.back e _ _ _ _ _ _ _ _ _ _ _ (c.drop_out.ensures.less s.front s.back e s.own s.before s.after h.numbered) (c.drop_out-2.ensures s.front s.back h.counted)
           (c.drop_out-3.ensures.less s.front s.back h.first) (c.drop_out-4.ensures.less s.front s.back h.second) (c.free.ensures s.front s.back h.book.once h.held) h),
       room_more c.self.inside.ready _ _ _ _ _ _ _ _ c.put.ensures.room c.drop_out.ensures.room c.drop_out-3.ensures.room c.drop_out-4.ensures.room c.self.invariant.1,
+      c.put.ensures.lives ∙ c.self.invariant.2,
     )
 
 pub returns : goal.returns

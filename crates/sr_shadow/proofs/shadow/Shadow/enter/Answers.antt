@@ -24,4 +24,5 @@ invariant_of-self c =
           (omega (arith, ap (λ s. s.book.taken) c.self.view_is, c.requires.most))
           (c.join.ensures.more es _ (ap (λ (e : Entry). e.key) made) refl none h.numbered) (c.join-2.ensures es h.counted) (c.join-3.ensures.more es h.first) (c.join-4.ensures.more es h.second) h,
       tt,
+      c.push.ensures.lives ∙ c.self.invariant.2,
     )

@@ -9,18 +9,21 @@ pub invariant_of-self : goal.invariant_of-self
 invariant_of-self c = (
   rw (c.reserve.ensures.entries, c.reserve.ensures.taken) c.self.invariant.0,
   room_kept c.self.inside.ready 2 _ _ _ _ _ _ _ _ (omega arith) c.reserve.ensures.kept (omega arith) (omega arith) (omega arith) c.self.invariant.1,
+  c.reserve.ensures.lives ∙ c.self.invariant.2,
 )
 
 pub invariant_of-self-in_err-reserve-3 : goal.invariant_of-self-in_err-reserve-3
 invariant_of-self-in_err-reserve-3 c = (
   rw (c.reserve.ensures.entries, c.reserve.ensures.taken, c.reserve-2.ensures.same, c.reserve-3.ensures.same) c.self.invariant.0,
   room_kept c.self.inside.ready 2 _ _ _ _ _ _ _ _ (omega arith) c.reserve.ensures.kept c.reserve-2.ensures.more c.reserve-3.ensures.more (omega arith) c.self.invariant.1,
+  c.reserve.ensures.lives ∙ c.self.invariant.2,
 )
 
 pub invariant_of-self-in_err-reserve-4 : goal.invariant_of-self-in_err-reserve-4
 invariant_of-self-in_err-reserve-4 c = (
   rw (c.reserve.ensures.entries, c.reserve.ensures.taken, c.reserve-2.ensures.same, c.reserve-3.ensures.same, c.reserve-4.ensures.same) c.self.invariant.0,
   room_kept c.self.inside.ready 2 _ _ _ _ _ _ _ _ (omega arith) c.reserve.ensures.kept c.reserve-2.ensures.more c.reserve-3.ensures.more c.reserve-4.ensures.more c.self.invariant.1,
+  c.reserve.ensures.lives ∙ c.self.invariant.2,
 )
 
 pub join-requires-2 : goal.join-requires-2
@@ -45,4 +48,5 @@ invariant_of-self-2 c =
           (c.join.ensures.more es _ (ap (λ (e : Entry). e.key) made) refl none (rw c.reserve-2.ensures.same h.numbered)) (c.join-2.ensures es h.counted) (c.join-3.ensures.more es (rw c.reserve-3.ensures.same h.first))
           (c.join-4.ensures.more es (rw c.reserve-4.ensures.same h.second)) h,
       room_left c.self.inside.ready _ _ _ _ _ _ _ _ c.in_ok-reserve.ensures.room c.in_ok-reserve-2.ensures.room c.in_ok-reserve-3.ensures.room c.in_ok-reserve-4.ensures.room c.push.ensures.room c.join.ensures.room c.join-3.ensures.room c.join-4.ensures.room,
+      c.push.ensures.lives ∙ c.reserve.ensures.lives ∙ c.self.invariant.2,
     )

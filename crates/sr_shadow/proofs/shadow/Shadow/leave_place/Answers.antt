@@ -19,6 +19,7 @@ invariant_of-self c =
       shadow_conv _ _ _ _ _ _ _ _ _ _ (sym (c.put.ensures.entries s.front s.back e s.is refl)) (sym c.put.ensures.taken)
           (shadow_left _ s.front s.back e _ _ _ _ _ _ _ (c.leave.ensures.left s.front s.back h.book.once h.held) h),
       room_more c.self.inside.ready _ _ _ _ _ _ _ _ c.put.ensures.room (omega arith) (omega arith) (omega arith) c.self.invariant.1,
+      c.put.ensures.lives ∙ c.self.invariant.2,
     )
 
 pub returns : goal.returns

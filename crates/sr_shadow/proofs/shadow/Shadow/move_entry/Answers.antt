@@ -37,6 +37,7 @@ invariant_of-self c =
           (shadow_settled _ s.front s.back e c.args.place _ _ _ _ _ _ _ _ _ c.requires.alone free (c.swap.ensures.swapped s.front s.back h.first) (c.swap-2.ensures.swapped s.front s.back h.second)
           (c.settle.ensures s.front s.back h.book.once c.requires.alone free h.held) h),
       room_more c.self.inside.ready _ _ _ _ _ _ _ _ c.put.ensures.room (omega arith) c.swap.ensures.room c.swap-2.ensures.room c.self.invariant.1,
+      c.put.ensures.lives ∙ c.self.invariant.2,
     )
 
 pub returns : goal.returns

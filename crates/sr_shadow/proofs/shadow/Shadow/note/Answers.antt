@@ -18,6 +18,7 @@ invariant_of-self c =
       shadow_conv _ _ _ _ _ _ _ _ _ _ (sym (c.put.ensures.entries s.front s.back r.0 s.is (sym r.6))) (sym c.put.ensures.taken)
           (shadow_same _ s.front s.back r.0 c.args.entry _ _ _ _ _ _ r.2 r.3 r.4 r.5 r.6 (shadow_conv _ _ _ _ _ _ _ _ _ _ s.is refl c.self.invariant.0)),
       room_more c.self.inside.ready _ _ _ _ _ _ _ _ c.put.ensures.room (omega arith) (omega arith) (omega arith) c.self.invariant.1,
+      c.put.ensures.lives ∙ c.self.invariant.2,
     )
 
 pub returns : goal.returns

@@ -1,0 +1,15 @@
+use Rattle.std.proofs.Common.{◌∙◌}
+use Rattle.std.proofs.lemmas.Result.{on_ok_weaker}
+use Rattle.sr_audit.proofs.audit.Audit.absorb.Goals as goal
+
+pub returns : goal.returns
+returns c = on_ok_weaker c.absorb-7.result (λ places setup before size t. record {
+  vips = c.absorb.ensures.vips ∙ t.vips;
+  update = c.absorb.ensures.kept before size t.update;
+  givings = c.in_ok-absorb.ensures before t.givings;
+  versions = c.absorb-2.ensures before t.versions;
+  switches = c.in_ok-absorb-2.ensures before t.switches;
+  connections = c.in_ok-absorb-3.ensures before t.connections;
+  downs = c.in_ok-absorb-4.ensures before t.downs;
+  places = places before t.places;
+}) c.absorb-7.ensures

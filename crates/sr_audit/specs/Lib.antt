@@ -1,0 +1,12 @@
+pub mod Answers
+pub mod Audit
+pub mod Connections
+pub mod Downs
+pub mod HeldCounts
+pub mod Index
+pub mod LastGivings
+pub mod LastUpdate
+pub mod Lately
+pub mod Places
+pub mod Switches
+pub mod Versions

@@ -1,0 +1,58 @@
+ghost use Rattle.std.specs.Prelude.{◌≡◌, ◌∷◌, List, [], IfOk, OnOk, length};
+ghost use Rattle.sr_law.specs.Setup.{SetupView};
+ghost use Rattle.sr_law.specs.declared.line.Line.{Line as ALine};
+ghost use Rattle.sr_audit.specs.Audit.{Tells};
+
+use crate::connections::Connections;
+use crate::downs::Downs;
+use crate::last_givings::LastGivings;
+use crate::last_update::LastUpdate;
+use crate::places::Places;
+use crate::switches::Switches;
+use crate::versions::Versions;
+use sr_law::{Line, Setup};
+use std::alloc::{AllocError, Global};
+
+// What an auditor knows of the lines so far: an index for each question that a line can ask of them.
+#[derive(Drop)]
+pub(crate) struct Audit {
+    pub(crate) update: LastUpdate,
+    pub(crate) givings: LastGivings,
+    pub(crate) versions: Versions,
+    pub(crate) switches: Switches,
+    pub(crate) connections: Connections,
+    pub(crate) downs: Downs,
+    pub(crate) places: Places,
+}
+
+impl Audit {
+    // Of no lines.
+    pub(crate) fn new(alloc: Global, setup: &Setup) -> Result<Audit, AllocError>
+        ensures { IfOk result (λ audit. Tells setup.now audit []) }
+    {
+        Ok(Audit {
+            update: LastUpdate::new(setup.pools.vips()),
+            givings: LastGivings::new(alloc),
+            versions: Versions::new(alloc)?,
+            switches: Switches::new(alloc),
+            connections: Connections::new(alloc),
+            downs: Downs::new(alloc),
+            places: Places::new(alloc),
+        })
+    }
+
+    // One line more, the one of this number, from 0.
+    pub(crate) fn absorb(&mut self, number: usize, line: &Line) -> Result<(), AllocError>
+        ensures { OnOk result ((setup : SetupView) (before : List ALine) → length before ≡ number
+            → Tells setup self.old before
+            → Tells setup self.new (line.now ∷ before)) }
+    {
+        self.update.absorb(number, line);
+        self.versions.absorb(line);
+        self.givings.absorb(line)?;
+        self.switches.absorb(line)?;
+        self.connections.absorb(line)?;
+        self.downs.absorb(line)?;
+        self.places.absorb(line)
+    }
+}

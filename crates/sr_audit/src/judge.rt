@@ -1,0 +1,192 @@
+ghost use Rattle.std.specs.Prelude.{◌≡◌, ◌≤◌, List, reverse, length};
+ghost use Rattle.sr_law.specs.Cause.{meets_cause};
+ghost use Rattle.sr_law.specs.Groups.{keeps_groups};
+ghost use Rattle.sr_law.specs.Lawful.{broken};
+ghost use Rattle.sr_law.specs.Newer.{is_new_pool, meets_newer};
+ghost use Rattle.sr_law.specs.Order.{meets_order};
+ghost use Rattle.sr_law.specs.Retire.{endings_of};
+ghost use Rattle.sr_law.specs.Same.{meets_same};
+ghost use Rattle.sr_law.specs.Server.{meets_server};
+ghost use Rattle.sr_law.specs.Shaped.{IsShaped};
+ghost use Rattle.sr_law.specs.TakenDown.{is_known_down};
+ghost use Rattle.sr_audit.specs.Audit.{IsLawfulSoFar, Tells};
+ghost use Rattle.sr_audit.specs.Lately.{Falls};
+
+use crate::audit::Audit;
+use crate::lately::rises;
+use sr_law::{
+    Clause, Line, Opening, Setup, Verdict, goes_on, has_pool, in_range, is_known_down,
+    is_opening_give, meets_cause, meets_number, meets_retire, names_next_pool, opened_by,
+    refuses_next,
+};
+
+// The first lines give every virtual address its first pool, and after them each update goes on as it must.
+#[tactic(auto, unfolding(sr_law::specs::Groups::keeps_groups))]
+fn keeps_groups(audit: &Audit, setup: &Setup, before: &[Line], line: &Line) -> bool
+    requires { Tells setup.now audit.now (reverse before.now) }
+    ensures { result ≡ keeps_groups setup.now (reverse before.now) line.now }
+{
+    let goes = if before.len() < setup.pools.vips() {
+        is_opening_give(before.len(), line)
+    } else {
+        goes_on(audit.update.last(), line)
+    };
+    goes && names_next_pool(&setup.pools, before, line)
+}
+
+// A line stands in order.
+#[tactic(auto, unfolding(sr_law::specs::Order::meets_order))]
+fn meets_order(audit: &Audit, setup: &Setup, before: &[Line], line: &Line) -> bool
+    requires shape { IsShaped setup.now.shape }
+    requires falls { Falls (reverse before.now) }
+    requires tells { Tells setup.now audit.now (reverse before.now) }
+    ensures { result ≡ meets_order setup.now (reverse before.now) line.now }
+{
+    keeps_groups(audit, setup, before, line)
+        && rises(before, line)
+        && in_range(setup, line)
+        && audit.places.keep(line)
+        && refuses_next(before, line)
+}
+
+// The line names the right server, if any.
+fn meets_server(audit: &Audit, setup: &Setup, before: &[Line], line: &Line) -> bool
+    requires { Tells setup.now audit.now (reverse before.now) }
+    ensures { result ≡ meets_server setup.now.pools (reverse before.now) line.now }
+{
+    match line.choice() {
+        Some(choice) => {
+            has_pool(
+                audit.versions.last(choice.key.vip, choice.version),
+                choice.pool,
+            ) && match setup.pools.server(choice.pool, choice.key) {
+                Some(server) => server == choice.server,
+                None => false,
+            }
+        }
+        None => true,
+    }
+}
+
+// A packet of an open connection that began after its opening has the opening's pool.
+fn meets_same(audit: &Audit, setup: &Setup, before: &[Line], line: &Line) -> bool
+    requires { Tells setup.now audit.now (reverse before.now) }
+    ensures { result ≡ meets_same (reverse before.now) line.now }
+{
+    match line.choice() {
+        Some(choice) => match audit.connections.opening(choice.key) {
+            Some(opening) => line.start() <= opening.out || choice.pool == opening.pool,
+            None => true,
+        },
+        None => true,
+    }
+}
+
+// The pool of an opening is from the last switch on, and one that was given.
+fn is_new_pool(
+    audit: &Audit,
+    setup: &Setup,
+    before: &[Line],
+    vip: u8,
+    start: u64,
+    opening: Opening,
+) -> bool
+    requires { Tells setup.now audit.now (reverse before.now) }
+    ensures { result ≡ is_new_pool (reverse before.now) vip start (Some opening) }
+{
+    let from = match audit.switches.last(vip, start) {
+        Some(switched) => switched <= opening.pool,
+        None => true,
+    };
+    let up_to = match audit.givings.last(vip) {
+        Some(giving) => opening.pool <= giving.pool,
+        None => true,
+    };
+    from && up_to
+}
+
+// An opening line uses the pool of the last switch before it started, or a later one that was given.
+#[tactic(auto, unfolding(sr_law::specs::Newer::meets_newer))]
+fn meets_newer(audit: &Audit, setup: &Setup, before: &[Line], line: &Line) -> bool
+    requires { Tells setup.now audit.now (reverse before.now) }
+    ensures { result ≡ meets_newer (reverse before.now) line.now }
+{
+    match line.key() {
+        Some(key) => audit.connections.opening(key).is_some()
+            || match opened_by(line, key) {
+                Some(opening) => is_new_pool(audit, setup, before, key.vip, line.start(), opening),
+                None => true,
+            },
+        None => true,
+    }
+}
+
+// A server is known to be down: only one that was taken down is.
+#[tactic(auto, using(crate::proofs::Known::known_is_down))]
+fn knows_down(audit: &Audit, setup: &Setup, before: &[Line], server: u32, tick: u64) -> bool
+    requires { Tells setup.now audit.now (reverse before.now) }
+    ensures { result ≡ is_known_down (reverse before.now) server tick }
+{
+    audit.downs.has(server) && is_known_down(before, server, tick)
+}
+
+// A line has its cause.
+#[tactic(auto, unfolding(sr_law::specs::Cause::meets_cause))]
+fn has_cause(audit: &Audit, setup: &Setup, before: &[Line], line: &Line) -> bool
+    requires shape { IsShaped setup.now.shape }
+    requires vips { length setup.now.pools ≤ 16 }
+    requires tells { Tells setup.now audit.now (reverse before.now) }
+    ensures { result ≡ meets_cause setup.now (reverse before.now) line.now }
+{
+    match *line {
+        Line::Packet {
+            entered,
+            verdict: Verdict::To { server, .. },
+            ..
+        } => !knows_down(audit, setup, before, server, entered),
+        Line::Answer {
+            verdict: Verdict::To { server, .. },
+            ..
+        } => !audit.downs.has(server),
+        _ => meets_cause(setup, before, line),
+    }
+}
+
+// The first clause that a line breaks, by the lines before it and the Ending lines of all.
+#[tactic(auto, unfolding(sr_law::specs::Lawful::broken))]
+pub(crate) fn broken(
+    audit: &Audit,
+    setup: &Setup,
+    all: &[Line],
+    before: &[Line],
+    line: &Line,
+) -> Option<Clause>
+    requires shape { IsShaped setup.now.shape }
+    requires vips { length setup.now.pools ≤ 16 }
+    requires falls { Falls (reverse before.now) }
+    requires tells { Tells setup.now audit.now (reverse before.now) }
+    ensures { result ≡ broken setup.now (endings_of (reverse all.now)) (reverse before.now) line.now }
+{
+    if !meets_order(audit, setup, before, line) {
+        return Some(Clause::Order);
+    }
+    if !meets_server(audit, setup, before, line) {
+        return Some(Clause::Server);
+    }
+    if !meets_same(audit, setup, before, line) {
+        return Some(Clause::Same);
+    }
+    if !meets_newer(audit, setup, before, line) {
+        return Some(Clause::Newer);
+    }
+    if !meets_number(setup, before, line) {
+        return Some(Clause::Number);
+    }
+    if !has_cause(audit, setup, before, line) {
+        return Some(Clause::Cause);
+    }
+    if !meets_retire(setup, all, before, line) {
+        return Some(Clause::Retire);
+    }
+    None
+}

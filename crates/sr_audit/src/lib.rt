@@ -1,0 +1,36 @@
+//! The auditor of real logs: it judges a list of printed lines in one walk, and answers what `sr_law::check_plain` does. Each question that a
+//! line can ask of the lines before it has an index, with a contract over these lines as a list; what the walk knows is its indexes together.
+//!
+//! | question | part |
+//! |---|---|
+//! | Which lines may cross it: the newest, out at its start or later | `lately` |
+//! | Where an update stands | `last_update` |
+//! | What a virtual address was last given | `last_givings` |
+//! | What a version was last given | `versions` |
+//! | What a virtual address was last switched to | `switches` |
+//! | Whether a connection is open, and how it was opened | `connections` |
+//! | Whether a server was taken down | `downs` |
+//! | Who has a place of the tables | `places` |
+//! | After the walk: whether each packet has its final line | `final_lines`; `pairing`: `answers`, `held_counts` |
+//!
+//! `judge` asks them, and asks the plain bodies of `sr_law` what has no index yet: why openers were held or found their
+//! ring full, whether a version is free, whether a connection was quiet, and the final lines. `walk` goes over the lines.
+#![tactic(auto)]
+
+mod answers;
+mod audit;
+mod connections;
+mod downs;
+mod final_lines;
+mod held_counts;
+mod judge;
+mod last_givings;
+mod last_update;
+mod lately;
+mod pairing;
+mod places;
+mod switches;
+mod versions;
+mod walk;
+
+pub use walk::check;

@@ -1,0 +1,20 @@
+//! The machine of `sr_machine` as code. So far a pipe's part: its next step, and what it knows after it, once for all who have
+//! words to make the step on.
+//!
+//! | part | source files | `specs/` |
+//! |---|---|---|
+//! | How a loaded word is read | `reads` | `Ranges` |
+//! | How far a packet has come | `track` | `Tracks` |
+//! | What comes after each of its steps | `course` | |
+//! | Its next step, and the stage after it | `stepping` | |
+//! | A pipe: packets enter, steps are made, lines are written | `pipe_machine` | `HeldPipe` |
+#![tactic(auto)]
+
+mod course;
+mod pipe_machine;
+mod reads;
+mod stepping;
+mod track;
+
+pub use pipe_machine::PipeMachine;
+pub use track::{Course, Track};

@@ -1,0 +1,8 @@
+pub mod Following
+pub mod Kept
+mod PacketSteps
+mod Rows
+mod Scenes
+mod TurnSteps
+pub mod Words
+pub mod Written

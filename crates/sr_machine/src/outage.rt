@@ -1,0 +1,7 @@
+/// A change that takes a server down, and that was not made.
+pub struct Outage {
+    /// When it is due, in milliseconds of capture time.
+    pub at_ms: u64,
+    /// The server.
+    pub server: u32,
+}

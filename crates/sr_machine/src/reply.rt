@@ -1,0 +1,10 @@
+use crate::HeldOpener;
+use sr_base::Version;
+
+/// The answer to a held opener.
+pub struct Reply {
+    /// The opener.
+    pub held: HeldOpener,
+    /// The version by which it is sent; none where there is no place for its key.
+    pub version: Option<Version>,
+}
