@@ -6,8 +6,8 @@ use Rattle.std.proofs.lemmas.List.{take_all, length-drop}
 use Rattle.sr_pcapng.specs.declared.endian.Endian.{Endian}
 use Rattle.sr_pcapng.specs.declared.front.Front.{Front}
 use Rattle.sr_pcapng.specs.declared.interface.Interface.{Interface}
-use Rattle.sr_pcapng.specs.declared.ng_next.NgNext.{NgNext}
-use Rattle.sr_pcapng.specs.declared.ng_next.NgNext.TheVariants.{ReadFault, Truncated}
+use Rattle.sr_pcapng.specs.declared.stop.Stop.{Stop}
+use Rattle.sr_pcapng.specs.declared.stop.Stop.TheVariants.{ReadFault, Truncated}
 use Rattle.sr_pcapng.specs.declared.packet_head.PacketHead.{PacketHead}
 use Rattle.sr_pcapng.specs.Block.{Packet, Whole, last_fault, unless, closed, whole, section_with, section_block, with_interface, interface_with, interface_block, packet_with_head, packet_block, other_block, block_with, block_at}
 use Rattle.sr_pcapng.specs.Endian.{number}
@@ -16,33 +16,33 @@ use Rattle.sr_pcapng.specs.Options.{Walked, walk}
 use Rattle.sr_pcapng.specs.Reading.{Gives, Follows}
 
 -- an error that was passed on
-pub gives_err : {A B : Type 0} (view : A → List ℕ → B) (why : NgNext) (r : Result A NgNext) (definition : Result B NgNext) (left : Option (List ℕ)) → r ≡ Err why
+pub gives_err : {A B : Type 0} (view : A → List ℕ → B) (why : Stop) (r : Result A Stop) (definition : Result B Stop) (left : Option (List ℕ)) → r ≡ Err why
     → (why ≡ ReadFault) ⊎ (definition ≡ Err why) → Gives view r definition left
 gives_err view why r definition left e f = subst (λ z. Gives view z definition left) (sym e) f
 
 -- an error of a part is one of the whole
-pub err_then : {A B : Type 0} (why : NgNext) (part : Result A NgNext) (all : Result B NgNext) → (why ≡ ReadFault) ⊎ (part ≡ Err why) → (part ≡ Err why → all ≡ Err why)
+pub err_then : {A B : Type 0} (why : Stop) (part : Result A Stop) (all : Result B Stop) → (why ≡ ReadFault) ⊎ (part ≡ Err why) → (part ≡ Err why → all ≡ Err why)
     → (why ≡ ReadFault) ⊎ (all ≡ Err why)
 err_then why part all (inl fault) go = inl fault
 err_then why part all (inr e) go = inr (go e)
 
 -- ---- the end of a block
 
-pub closed_err : (endian : Endian) (offset size more : ℕ) (xs last : List ℕ) (why : NgNext) → last ≡ take 4 (drop more xs) → last_fault endian offset size last ≡ Some why
+pub closed_err : (endian : Endian) (offset size more : ℕ) (xs last : List ℕ) (why : Stop) → last ≡ take 4 (drop more xs) → last_fault endian offset size last ≡ Some why
     → closed endian offset size more xs ≡ Err why
 unfolding closed
 closed_err endian offset size more xs last why same e =
-    ap (λ (f : Option NgNext). unless f (drop 4 (drop more xs))) (ap (last_fault endian offset size) (sym same) ∙ e)
+    ap (λ (f : Option Stop). unless f (drop 4 (drop more xs))) (ap (last_fault endian offset size) (sym same) ∙ e)
 
 pub closed_ok : (endian : Endian) (offset size more : ℕ) (xs last : List ℕ) → last ≡ take 4 (drop more xs) → last_fault endian offset size last ≡ None
     → closed endian offset size more xs ≡ Ok (drop 4 (drop more xs))
 unfolding closed
 closed_ok endian offset size more xs last same e =
-    ap (λ (f : Option NgNext). unless f (drop 4 (drop more xs))) (ap (last_fault endian offset size) (sym same) ∙ e)
+    ap (λ (f : Option Stop). unless f (drop 4 (drop more xs))) (ap (last_fault endian offset size) (sym same) ∙ e)
 
 -- ---- any other block
 
-pub other_gives : {A : Type 0} (r : Result A NgNext) (section : SectionView) (endian : Endian) (offset size : ℕ) (xs : List ℕ) (left : Option (List ℕ)) → endian ≡ endian_of section
+pub other_gives : {A : Type 0} (r : Result A Stop) (section : SectionView) (endian : Endian) (offset size : ℕ) (xs : List ℕ) (left : Option (List ℕ)) → endian ≡ endian_of section
     → Gives (λ _ rest. rest) r (closed endian offset size (size - 12) xs) left
     → Gives (λ _ rest. record { packet = None; section = section; size = size; rest = rest }) r (other_block section offset size xs) left
 unfolding other_block
@@ -57,16 +57,16 @@ other_gives (Err why) section endian offset size xs left e (inr f) =
 
 -- ---- a section header
 
-pub section_err : (offset : ℕ) (size xs : List ℕ) (why : NgNext) → header_of offset size (take 16 xs) ≡ Err why → section_block offset size xs ≡ Err why
+pub section_err : (offset : ℕ) (size xs : List ℕ) (why : Stop) → header_of offset size (take 16 xs) ≡ Err why → section_block offset size xs ≡ Err why
 unfolding section_block
-section_err offset size xs why e = ap (λ (z : Result (Endian × ℕ) NgNext). section_with offset z (drop 16 xs)) e
+section_err offset size xs why e = ap (λ (z : Result (Endian × ℕ) Stop). section_with offset z (drop 16 xs)) e
 
 section_closed : (offset : ℕ) (size xs : List ℕ) (h : Endian × ℕ) → header_of offset size (take 16 xs) ≡ Ok h
     → section_block offset size xs ≡ whole None (record { endian = Some h.0; interfaces = [] }) h.1 (closed h.0 offset h.1 (h.1 - 28) (drop 16 xs))
 unfolding section_block
-section_closed offset size xs h e = ap (λ (z : Result (Endian × ℕ) NgNext). section_with offset z (drop 16 xs)) e
+section_closed offset size xs h e = ap (λ (z : Result (Endian × ℕ) Stop). section_with offset z (drop 16 xs)) e
 
-pub section_not_closed : (offset : ℕ) (size xs : List ℕ) (h : Endian × ℕ) (why : NgNext) → header_of offset size (take 16 xs) ≡ Ok h
+pub section_not_closed : (offset : ℕ) (size xs : List ℕ) (h : Endian × ℕ) (why : Stop) → header_of offset size (take 16 xs) ≡ Ok h
     → closed h.0 offset h.1 (h.1 - 28) (drop 16 xs) ≡ Err why → section_block offset size xs ≡ Err why
 section_not_closed offset size xs h why e f = section_closed offset size xs h e ∙ ap (whole None (record { endian = Some h.0; interfaces = [] }) h.1) f
 
@@ -90,7 +90,7 @@ interface_walked : (section : SectionView) (offset size : ℕ) (xs : List ℕ) �
 unfolding interface_block
 interface_walked section offset size xs enough = cond-false _ _ _ (le-ltb (length xs) 8 enough)
 
-pub interface_err : (section : SectionView) (endian : Endian) (offset size : ℕ) (xs : List ℕ) (why : NgNext) → endian ≡ endian_of section → 8 ≤ length xs
+pub interface_err : (section : SectionView) (endian : Endian) (offset size : ℕ) (xs : List ℕ) (why : Stop) → endian ≡ endian_of section → 8 ≤ length xs
     → walk (size - 20) endian offset (size - 20) None (drop 8 xs) ≡ Err why → interface_block section offset size xs ≡ Err why
 interface_err section endian offset size xs why s enough e =
     interface_walked section offset size xs enough
@@ -107,7 +107,7 @@ interface_closed section endian offset size xs w s enough e =
     ∙ ap (interface_with section offset size (number (endian_of section) 2 (take 8 xs))) e
     ∙ ap (λ (n : Endian). whole None (with_interface section (record { link = number n 2 (take 8 xs); resolution = unwrap_or w.resolution 6 })) size (closed n offset size w.more w.rest)) (sym s)
 
-pub interface_not_closed : (section : SectionView) (endian : Endian) (offset size : ℕ) (xs : List ℕ) (w : Walked) (why : NgNext) → endian ≡ endian_of section → 8 ≤ length xs
+pub interface_not_closed : (section : SectionView) (endian : Endian) (offset size : ℕ) (xs : List ℕ) (w : Walked) (why : Stop) → endian ≡ endian_of section → 8 ≤ length xs
     → walk (size - 20) endian offset (size - 20) None (drop 8 xs) ≡ Ok w → closed endian offset size w.more w.rest ≡ Err why → interface_block section offset size xs ≡ Err why
 interface_not_closed section endian offset size xs w why s enough e f =
     interface_closed section endian offset size xs w s enough e
@@ -131,14 +131,14 @@ interface_whole section endian offset size link resolution xs fields rest w afte
 
 -- ---- an enhanced packet block
 
-packet_headed : (section : SectionView) (endian : Endian) (offset size : ℕ) (xs : List ℕ) (z : Result PacketHead NgNext) → endian ≡ endian_of section
+packet_headed : (section : SectionView) (endian : Endian) (offset size : ℕ) (xs : List ℕ) (z : Result PacketHead Stop) → endian ≡ endian_of section
     → packet_of endian section.interfaces offset size (take 20 xs) ≡ z → packet_block section offset size xs ≡ packet_with_head section offset size z (drop 20 xs)
 unfolding packet_block
 packet_headed section endian offset size xs z s e =
-    ap (λ (r : Result PacketHead NgNext). packet_with_head section offset size r (drop 20 xs))
+    ap (λ (r : Result PacketHead Stop). packet_with_head section offset size r (drop 20 xs))
     (ap (λ (n : Endian). packet_of n section.interfaces offset size (take 20 xs)) (sym s) ∙ e)
 
-pub packet_err : (section : SectionView) (endian : Endian) (offset size : ℕ) (xs : List ℕ) (why : NgNext) → endian ≡ endian_of section
+pub packet_err : (section : SectionView) (endian : Endian) (offset size : ℕ) (xs : List ℕ) (why : Stop) → endian ≡ endian_of section
     → packet_of endian section.interfaces offset size (take 20 xs) ≡ Err why → packet_block section offset size xs ≡ Err why
 packet_err section endian offset size xs why s e = packet_headed section endian offset size xs (Err why) s e
 
@@ -156,7 +156,7 @@ packet_closed section endian offset size xs head s e enough =
     ∙ cond-false _ _ _ (le-ltb (length (drop 20 xs)) head.captured enough)
     ∙ ap (λ (n : Endian). whole (Some (record { head = head; bytes = take head.captured (drop 20 xs) })) section size (closed n offset size (size - 32 - head.captured) (drop head.captured (drop 20 xs)))) (sym s)
 
-pub packet_not_closed : (section : SectionView) (endian : Endian) (offset size : ℕ) (xs : List ℕ) (head : PacketHead) (why : NgNext) → endian ≡ endian_of section
+pub packet_not_closed : (section : SectionView) (endian : Endian) (offset size : ℕ) (xs : List ℕ) (head : PacketHead) (why : Stop) → endian ≡ endian_of section
     → packet_of endian section.interfaces offset size (take 20 xs) ≡ Ok head → head.captured ≤ length (drop 20 xs)
     → closed endian offset size (size - 32 - head.captured) (drop head.captured (drop 20 xs)) ≡ Err why → packet_block section offset size xs ≡ Err why
 packet_not_closed section endian offset size xs head why s e enough f =
@@ -175,12 +175,12 @@ packet_whole section endian offset size xs bytes rest head s e enough b f =
 -- ---- any block
 
 -- the block that the first eight bytes tell of
-pub block_is : (section : SectionView) (offset : ℕ) (xs first : List ℕ) (z : Result Front NgNext) → first ≡ take 8 xs → z ≡ front_of section offset first
+pub block_is : (section : SectionView) (offset : ℕ) (xs first : List ℕ) (z : Result Front Stop) → first ≡ take 8 xs → z ≡ front_of section offset first
     → block_at section offset xs ≡ block_with section offset z first (drop 8 xs)
 unfolding block_at
 block_is section offset xs first z same e =
     ap (λ (ys : List ℕ). block_with section offset (front_of section offset ys) ys (drop 8 xs)) (sym same)
-    ∙ ap (λ (r : Result Front NgNext). block_with section offset r first (drop 8 xs)) (sym e)
+    ∙ ap (λ (r : Result Front Stop). block_with section offset r first (drop 8 xs)) (sym e)
 
 -- the bytes behind the first four
 pub tail_whole : (xs : List ℕ) → take (length xs - 4) (drop 4 xs) ≡ drop 4 xs

@@ -8,8 +8,8 @@ use Rattle.sr_pcapng.specs.declared.endian.Endian.TheVariants.{Big, Little}
 use Rattle.sr_pcapng.specs.declared.front.Front.{Front}
 use Rattle.sr_pcapng.specs.declared.front.Front.TheVariants as front
 use Rattle.sr_pcapng.specs.declared.interface.Interface.{Interface}
-use Rattle.sr_pcapng.specs.declared.ng_next.NgNext.{NgNext}
-use Rattle.sr_pcapng.specs.declared.ng_next.NgNext.TheVariants.{Truncated, TooLong, Block, Magic, Major, TooMany}
+use Rattle.sr_pcapng.specs.declared.stop.Stop.{Stop}
+use Rattle.sr_pcapng.specs.declared.stop.Stop.TheVariants.{Truncated, TooLong, Block, Magic, Major, TooMany}
 use Rattle.sr_pcapng.specs.declared.packet_head.PacketHead.{PacketHead}
 use Rattle.sr_pcapng.specs.Endian.{number}
 use Rattle.sr_pcapng.specs.Interface.{milliseconds}
@@ -34,7 +34,7 @@ is_bad least size = not (size % 4 == 0) || nat_lt size least
 -- ---- type and length
 
 -- what a block of this type is, by its length
-unfoldable pub front_sized : ℕ → ℕ → ℕ → ℕ → Result Front NgNext
+unfoldable pub front_sized : ℕ → ℕ → ℕ → ℕ → Result Front Stop
 front_sized interfaces offset type size =
     if type == 1 then (if is_bad 20 size then Err (Block offset)
       else (if nat_lt interfaces 1024 then Ok (front.Interface size) else Err (TooMany offset)))
@@ -56,19 +56,19 @@ HasRoom (front.Packet size) interfaces = Unit {0}
 HasRoom (front.Other size) interfaces = Unit {0}
 
 -- what a block in a section of this byte order is, by its first eight bytes
-unfoldable pub front_in : Endian → ℕ → ℕ → List ℕ → Result Front NgNext
+unfoldable pub front_in : Endian → ℕ → ℕ → List ℕ → Result Front Stop
 front_in endian interfaces offset bytes =
     if (number endian 4 bytes == 2) || (number endian 4 bytes == 3) then Err (Block offset)
     else (if nat_lt (length bytes) 8 then Err (Truncated offset)
     else front_sized interfaces offset (number endian 4 bytes) (number endian 4 (drop 4 bytes)))
 
 -- the same where there may be no section yet
-abbrev pub front_after : Option Endian → ℕ → ℕ → List ℕ → Result Front NgNext
+abbrev pub front_after : Option Endian → ℕ → ℕ → List ℕ → Result Front Stop
 front_after None interfaces offset bytes = Err (Block offset)
 front_after (Some endian) interfaces offset bytes = front_in endian interfaces offset bytes
 
 -- what a block is, by its first eight bytes
-unfoldable pub front_of : SectionView → ℕ → List ℕ → Result Front NgNext
+unfoldable pub front_of : SectionView → ℕ → List ℕ → Result Front Stop
 front_of section offset bytes =
     if nat_lt (length bytes) 4 then Err (Truncated offset)
     else (if number Big 4 bytes == 0x0a0d0d0a then (if nat_lt (length bytes) 8 then Err (Truncated offset) else Ok front.Section)
@@ -83,18 +83,18 @@ order_of bytes =
     else (if number Little 4 bytes == 0x1a2b3c4d then Some Little else None)
 
 -- the length and the major version of a section header in this byte order: its length
-unfoldable pub header_in : Endian → ℕ → List ℕ → List ℕ → Result (Endian × ℕ) NgNext
+unfoldable pub header_in : Endian → ℕ → List ℕ → List ℕ → Result (Endian × ℕ) Stop
 header_in endian offset size bytes =
     if is_bad 28 (number endian 4 size) then Err (Block offset)
     else (if nat_lt (length bytes) 6 then Err (Truncated offset)
     else (if number endian 2 (drop 4 bytes) == 1 then Ok (endian, number endian 4 size) else Err Major))
 
-abbrev pub header_with : Option Endian → ℕ → List ℕ → List ℕ → Result (Endian × ℕ) NgNext
+abbrev pub header_with : Option Endian → ℕ → List ℕ → List ℕ → Result (Endian × ℕ) Stop
 header_with None offset size bytes = Err Magic
 header_with (Some endian) offset size bytes = header_in endian offset size bytes
 
 -- the byte order and the length of a section header, by the four bytes of its length and the 16 bytes after them
-unfoldable pub header_of : ℕ → List ℕ → List ℕ → Result (Endian × ℕ) NgNext
+unfoldable pub header_of : ℕ → List ℕ → List ℕ → Result (Endian × ℕ) Stop
 header_of offset size bytes =
     if nat_lt (length bytes) 4 then Err (Truncated offset) else header_with (order_of bytes) offset size bytes
 
@@ -105,20 +105,20 @@ abbrev pub time_of : Endian → List ℕ → ℕ
 time_of endian bytes = number endian 4 (drop 4 bytes) * 2 ^ 32 + number endian 4 (drop 8 bytes)
 
 -- a packet of this interface with so many captured bytes
-unfoldable pub packet_sized : ℕ → ℕ → ℕ → Interface → ℕ → Result PacketHead NgNext
+unfoldable pub packet_sized : ℕ → ℕ → ℕ → Interface → ℕ → Result PacketHead Stop
 packet_sized offset size captured interface time =
     if nat_lt 262144 captured then Err (TooLong offset captured)
     else (if nat_lt size (32 + padded captured) then Err (Block offset)
     else Ok (record { ms = milliseconds interface.resolution time; link = interface.link; captured = captured }))
 
-abbrev pub packet_with : Endian → ℕ → ℕ → Option Interface → List ℕ → Result PacketHead NgNext
+abbrev pub packet_with : Endian → ℕ → ℕ → Option Interface → List ℕ → Result PacketHead Stop
 packet_with endian offset size None bytes = Err (Block offset)
 packet_with endian offset size (Some interface) bytes =
     if nat_lt (length bytes) 16 then Err (Truncated offset)
     else packet_sized offset size (number endian 4 (drop 12 bytes)) interface (time_of endian bytes)
 
 -- the packet of a block of this length, by the 20 bytes after it
-unfoldable pub packet_of : Endian → List Interface → ℕ → ℕ → List ℕ → Result PacketHead NgNext
+unfoldable pub packet_of : Endian → List Interface → ℕ → ℕ → List ℕ → Result PacketHead Stop
 packet_of endian interfaces offset size bytes =
     if nat_lt (length bytes) 4 then Err (Truncated offset)
     else packet_with endian offset size (slice_get interfaces (number endian 4 bytes)) bytes

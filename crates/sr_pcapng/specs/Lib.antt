@@ -6,3 +6,4 @@ pub mod Next
 pub mod Options
 pub mod Reader
 pub mod Reading
+pub mod Stop

@@ -1,9 +1,12 @@
 -- What comes next in a capture, and its packets, read off the bytes that are left.
 use Rattle.std.specs.Prelude.{ℕ, zero, suc, ◌+◌, ◌==◌, if◌then◌else◌, List, [], ◌∷◌, length, Option, Some, None, Result, Ok, Err}
 use Rattle.sr_pcapng.specs.declared.ng_next.NgNext.{NgNext}
-use Rattle.sr_pcapng.specs.declared.ng_next.NgNext.TheVariants.{End, Truncated, TooMany, Whole as WholePacket}
+use Rattle.sr_pcapng.specs.declared.ng_next.NgNext.TheVariants as next
+use Rattle.sr_pcapng.specs.declared.stop.Stop.{Stop}
+use Rattle.sr_pcapng.specs.declared.stop.Stop.TheVariants.{End, Truncated, TooMany}
 use Rattle.sr_pcapng.specs.Block.{Packet, Whole, block_at}
 use Rattle.sr_pcapng.specs.Front.{SectionView}
+use Rattle.sr_pcapng.specs.Stop.{said}
 
 -- where a capture is read on: how many more blocks it may have, where the next one begins, and the section that it is in
 pub record Place : Type 0 where
@@ -23,11 +26,11 @@ pub record Arrival : Type 0 where
   pub rest : List ℕ
 
 -- what is said where no byte is left: a capture has a block
-abbrev pub at_end : SectionView → ℕ → NgNext
+abbrev pub at_end : SectionView → ℕ → Stop
 at_end section offset = elim section.endian [ None ↦ Truncated offset | Some endian ↦ End ]
 
 -- the next packet; blocks before it that carry none are passed over
-unfoldable pub next_from : ℕ → ℕ → SectionView → List ℕ → Result Arrival NgNext
+unfoldable pub next_from : ℕ → ℕ → SectionView → List ℕ → Result Arrival Stop
 next_from zero offset section bytes = if length bytes == 0 then Err (at_end section offset) else Err (TooMany offset)
 next_from (suc room) offset section bytes =
     if length bytes == 0 then Err (at_end section offset)
@@ -60,16 +63,16 @@ with_arrival a records =
     record { frames = record { ms = a.packet.head.ms; link = a.packet.head.link; bytes = a.packet.bytes } ∷ records.frames; ending = records.ending }
 
 abbrev pub whole_at : Arrival → NgNext
-whole_at a = WholePacket a.packet.head.ms a.packet.head.link a.offset
+whole_at a = next.Whole a.packet.head.ms a.packet.head.link a.offset
 
 -- the packets of the bytes that are left, up to so many; where there are more, the ending is the next one
 unfoldable pub records_from : ℕ → Place → List ℕ → Records
 records_from zero place bytes = elim (next_from place.room place.offset place.section bytes) [
-  | Err why ↦ record { frames = []; ending = why }
+  | Err why ↦ record { frames = []; ending = said why }
   | Ok a ↦ record { frames = []; ending = whole_at a }
 ]
 records_from (suc most) place bytes = elim (next_from place.room place.offset place.section bytes) [
-  | Err why ↦ record { frames = []; ending = why }
+  | Err why ↦ record { frames = []; ending = said why }
   | Ok a ↦ with_arrival a (records_from most a.place a.rest)
 ]
 

@@ -4,9 +4,9 @@ ghost use Rattle.sr_io.specs.Faults.{Rose};
 ghost use Rattle.sr_pcapng.specs.Block.{block_at, last_fault, closed, section_block, interface_block, packet_block, other_block};
 ghost use Rattle.sr_pcapng.specs.Front.{SectionView};
 ghost use Rattle.sr_pcapng.specs.Reading.{Gives};
-ghost use Rattle.sr_pcapng.specs.declared.ng_next.NgNext.TheVariants.{ReadFault};
+ghost use Rattle.sr_pcapng.specs.declared.stop.Stop.TheVariants.{ReadFault};
 
-use crate::NgNext;
+use crate::stop::Stop;
 use crate::endian::Endian;
 use crate::front::Front;
 use crate::interface::Interface;
@@ -28,14 +28,14 @@ pub fn read_block<S: Source>(
     packet: &mut [u8],
     offset: u64,
     first: &[u8],
-) -> Result<(Option<PacketHead>, u32), NgNext>
+) -> Result<(Option<PacketHead>, u32), Stop>
     requires scratch { 0 < length scratch.old }
     requires packet { length packet.old ≡ 262144 }
     requires first { length first.now ≤ 8 }
-    ensures reads { (xs : List ℕ) → S.left source.old ≡ Some (drop 8 xs) → first.now ≡ take 8 xs → Gives (λ r rest. record { packet = option_map (λ head. record { head = head; bytes = take head.captured packet.new }) r.0; section = section.new; size = r.1; rest = rest }) result (block_at section.old offset xs) (S.left source.new) }
+    ensures reads { (xs : List ℕ) → (S.known source.old).left ≡ Some (drop 8 xs) → first.now ≡ take 8 xs → Gives (λ r rest. record { packet = option_map (λ head. record { head = head; bytes = take head.captured packet.new }) r.0; section = section.new; size = r.1; rest = rest }) result (block_at section.old offset xs) (S.known source.new).left }
     ensures few { IfOk result (λ r. IfSome r.0 (λ head. head.captured ≤ 262144)) }
-    ensures count { S.faults source.old ≤ S.faults source.new }
-    ensures failed { result ≡ Err ReadFault → Rose (S.faults source.old) (S.faults source.new) }
+    ensures count { (S.known source.old).faults ≤ (S.known source.new).faults }
+    ensures failed { result ≡ Err ReadFault → Rose (S.known source.old).faults (S.known source.new).faults }
 {
     match section.front(offset, first)? {
         Front::Section => {
@@ -64,12 +64,12 @@ fn read_section<S: Source>(
     section: &mut Section,
     offset: u64,
     size: &[u8],
-) -> Result<u32, NgNext>
+) -> Result<u32, Stop>
     requires scratch { 0 < length scratch.old }
     requires size { 4 ≤ length size.now }
-    ensures reads { ForSome (S.left source.old) (λ xs. Gives (λ n rest. record { packet = None; section = section.new; size = n; rest = rest }) result (section_block offset size.now xs) (S.left source.new)) }
-    ensures count { S.faults source.old ≤ S.faults source.new }
-    ensures failed { result ≡ Err ReadFault → Rose (S.faults source.old) (S.faults source.new) }
+    ensures reads { ForSome (S.known source.old).left (λ xs. Gives (λ n rest. record { packet = None; section = section.new; size = n; rest = rest }) result (section_block offset size.now xs) (S.known source.new).left) }
+    ensures count { (S.known source.old).faults ≤ (S.known source.new).faults }
+    ensures failed { result ≡ Err ReadFault → Rose (S.known source.old).faults (S.known source.new).faults }
 {
     let mut fields = [0; 16];
     let n = fill(source, &mut fields, 16)?;
@@ -86,18 +86,18 @@ fn read_interface<S: Source>(
     section: &mut Section,
     offset: u64,
     size: u32,
-) -> Result<(), NgNext>
+) -> Result<(), Stop>
     requires scratch { 0 < length scratch.old }
     requires size { 20 ≤ size }
     requires room { length section.old.interfaces < 1024 }
-    ensures reads { ForSome (S.left source.old) (λ xs. Gives (λ _ rest. record { packet = None; section = section.new; size = size; rest = rest }) result (interface_block section.old offset size xs) (S.left source.new)) }
-    ensures count { S.faults source.old ≤ S.faults source.new }
-    ensures failed { result ≡ Err ReadFault → Rose (S.faults source.old) (S.faults source.new) }
+    ensures reads { ForSome (S.known source.old).left (λ xs. Gives (λ _ rest. record { packet = None; section = section.new; size = size; rest = rest }) result (interface_block section.old offset size xs) (S.known source.new).left) }
+    ensures count { (S.known source.old).faults ≤ (S.known source.new).faults }
+    ensures failed { result ≡ Err ReadFault → Rose (S.known source.old).faults (S.known source.new).faults }
 {
     let endian = section.endian();
     let mut fields = [0; 8];
     if fill(source, &mut fields, 8)? < 8 {
-        return Err(NgNext::Truncated { offset });
+        return Err(Stop::Truncated { offset });
     }
     let link = endian.read_u16(&fields);
     let (resolution, more) = walk(source, scratch, endian, offset, size as u64 - 20)?;
@@ -115,14 +115,14 @@ fn read_packet<S: Source>(
     packet: &mut [u8],
     offset: u64,
     size: u32,
-) -> Result<PacketHead, NgNext>
+) -> Result<PacketHead, Stop>
     requires scratch { 0 < length scratch.old }
     requires packet { length packet.old ≡ 262144 }
     requires size { 32 ≤ size }
-    ensures reads { ForSome (S.left source.old) (λ xs. Gives (λ head rest. record { packet = Some (record { head = head; bytes = take head.captured packet.new }); section = section.now; size = size; rest = rest }) result (packet_block section.now offset size xs) (S.left source.new)) }
+    ensures reads { ForSome (S.known source.old).left (λ xs. Gives (λ head rest. record { packet = Some (record { head = head; bytes = take head.captured packet.new }); section = section.now; size = size; rest = rest }) result (packet_block section.now offset size xs) (S.known source.new).left) }
     ensures few { IfOk result (λ head. head.captured ≤ 262144) }
-    ensures count { S.faults source.old ≤ S.faults source.new }
-    ensures failed { result ≡ Err ReadFault → Rose (S.faults source.old) (S.faults source.new) }
+    ensures count { (S.known source.old).faults ≤ (S.known source.new).faults }
+    ensures failed { result ≡ Err ReadFault → Rose (S.known source.old).faults (S.known source.new).faults }
 {
     let endian = section.endian();
     let mut fields = [0; 20];
@@ -130,7 +130,7 @@ fn read_packet<S: Source>(
     let head = section.packet(endian, offset, size, &fields[..n])?;
     let captured = head.captured as usize;
     if fill(source, packet, captured)? < captured {
-        return Err(NgNext::Truncated { offset });
+        return Err(Stop::Truncated { offset });
     }
     let more = size as u64 - 32 - head.captured as u64;
     close(source, scratch, endian, offset, size, more)?;
@@ -144,12 +144,12 @@ fn read_other<S: Source>(
     section: &Section,
     offset: u64,
     size: u32,
-) -> Result<(), NgNext>
+) -> Result<(), Stop>
     requires scratch { 0 < length scratch.old }
     requires size { 12 ≤ size }
-    ensures reads { ForSome (S.left source.old) (λ xs. Gives (λ _ rest. record { packet = None; section = section.now; size = size; rest = rest }) result (other_block section.now offset size xs) (S.left source.new)) }
-    ensures count { S.faults source.old ≤ S.faults source.new }
-    ensures failed { result ≡ Err ReadFault → Rose (S.faults source.old) (S.faults source.new) }
+    ensures reads { ForSome (S.known source.old).left (λ xs. Gives (λ _ rest. record { packet = None; section = section.now; size = size; rest = rest }) result (other_block section.now offset size xs) (S.known source.new).left) }
+    ensures count { (S.known source.old).faults ≤ (S.known source.new).faults }
+    ensures failed { result ≡ Err ReadFault → Rose (S.known source.old).faults (S.known source.new).faults }
 {
     close(
         source,
@@ -169,11 +169,11 @@ fn close<S: Source>(
     offset: u64,
     size: u32,
     more: u64,
-) -> Result<(), NgNext>
+) -> Result<(), Stop>
     requires { 0 < length scratch.old }
-    ensures closes { ForSome (S.left source.old) (λ xs. Gives (λ _ rest. rest) result (closed endian offset size more xs) (S.left source.new)) }
-    ensures count { S.faults source.old ≤ S.faults source.new }
-    ensures failed { result ≡ Err ReadFault → Rose (S.faults source.old) (S.faults source.new) }
+    ensures closes { ForSome (S.known source.old).left (λ xs. Gives (λ _ rest. rest) result (closed endian offset size more xs) (S.known source.new).left) }
+    ensures count { (S.known source.old).faults ≤ (S.known source.new).faults }
+    ensures failed { result ≡ Err ReadFault → Rose (S.known source.old).faults (S.known source.new).faults }
 {
     skip(source, scratch, more)?;
     let mut last = [0; 4];
@@ -186,15 +186,15 @@ fn close<S: Source>(
 
 // What is wrong with the last length of a block, if anything is.
 #[tactic(auto, unfolding(crate::specs::Block::last_fault))]
-fn last_fault(endian: Endian, offset: u64, size: u32, bytes: &[u8]) -> Option<NgNext>
+fn last_fault(endian: Endian, offset: u64, size: u32, bytes: &[u8]) -> Option<Stop>
     ensures exact { result ≡ last_fault endian offset size bytes.now }
     ensures judged { result ≢ Some ReadFault }
 {
     if bytes.len() < 4 {
-        return Some(NgNext::Truncated { offset });
+        return Some(Stop::Truncated { offset });
     }
     if endian.read_u32(bytes) != size {
-        return Some(NgNext::Block { offset });
+        return Some(Stop::Block { offset });
     }
     None
 }

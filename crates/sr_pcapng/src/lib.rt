@@ -19,6 +19,7 @@ mod packet_head;
 
 mod reading;
 mod section;
+mod stop;
 
 pub use ng_next::NgNext;
 pub use ng_reader::NgReader;

@@ -4,12 +4,14 @@ ghost use Rattle.sr_io.specs.Faults.{Rose};
 ghost use Rattle.sr_pcapng.specs.Next.{front_place, at_end};
 ghost use Rattle.sr_pcapng.specs.Reader.{Answers, Ends, Keeps, Steps, next_at};
 ghost use Rattle.sr_pcapng.specs.declared.ng_next.NgNext.TheVariants.{ReadFault};
+ghost use Rattle.sr_pcapng.specs.declared.stop.Stop.TheVariants as stop;
 
 use crate::NgNext;
 use crate::block::read_block;
 use crate::packet_head::PacketHead;
 use crate::reading::fill;
 use crate::section::{MOST_CAPTURED, Section};
+use crate::stop::Stop;
 use sr_io::Source;
 use std::alloc::{AllocError, Global};
 use std::marker::Model;
@@ -71,11 +73,11 @@ impl NgReader {
 
     /// Reads on to the next packet. Once it has answered anything else it reads no more, and answers the same.
     pub fn next<S: Source>(&mut self, source: &mut S) -> NgNext
-        ensures packet { self.old.ended ≡ None → ForSome (S.left source.old) (λ xs. Answers result (next_at self.old.place xs) self.new (S.left source.new)) }
+        ensures packet { self.old.ended ≡ None → ForSome (S.known source.old).left (λ xs. Answers result (next_at self.old.place xs) self.new (S.known source.new).left) }
         ensures ends { self.old.ended ≡ None → Ends result self.new }
         ensures again { ForSome self.old.ended (λ why. (result ≡ why) × (self.new ≡ self.old) × (source.new ≡ source.old)) }
-        ensures count { S.faults source.old ≤ S.faults source.new }
-        ensures read_fault { self.old.ended ≡ None → result ≡ ReadFault → Rose (S.faults source.old) (S.faults source.new) }
+        ensures count { (S.known source.old).faults ≤ (S.known source.new).faults }
+        ensures read_fault { self.old.ended ≡ None → result ≡ ReadFault → Rose (S.known source.old).faults (S.known source.new).faults }
     {
         match self.ended {
             Some(why) => why,
@@ -86,10 +88,10 @@ impl NgReader {
     // Reads on to the next packet, of a reader that hasn't ended.
     fn read_on<S: Source>(&mut self, source: &mut S) -> NgNext
         requires { self.old.ended ≡ None }
-        ensures packet { ForSome (S.left source.old) (λ xs. Answers result (next_at self.old.place xs) self.new (S.left source.new)) }
+        ensures packet { ForSome (S.known source.old).left (λ xs. Answers result (next_at self.old.place xs) self.new (S.known source.new).left) }
         ensures ends { Ends result self.new }
-        ensures count { S.faults source.old ≤ S.faults source.new }
-        ensures read_fault { result ≡ ReadFault → Rose (S.faults source.old) (S.faults source.new) }
+        ensures count { (S.known source.old).faults ≤ (S.known source.new).faults }
+        ensures read_fault { result ≡ ReadFault → Rose (S.known source.old).faults (S.known source.new).faults }
     {
         loop {
             let offset = self.offset;
@@ -102,7 +104,8 @@ impl NgReader {
                     };
                 }
                 Ok(None) => {}
-                Err(why) => {
+                Err(stop) => {
+                    let why = stop.said();
                     self.ended = Some(why);
                     return why;
                 }
@@ -111,11 +114,11 @@ impl NgReader {
     }
 
     // Reads a block, if one follows and may follow: the packet that it carries.
-    fn step<S: Source>(&mut self, source: &mut S) -> Result<Option<PacketHead>, NgNext>
-        ensures steps { ForSome (S.left source.old) (λ xs. Steps result self.old xs self.new (S.left source.new)) }
+    fn step<S: Source>(&mut self, source: &mut S) -> Result<Option<PacketHead>, Stop>
+        ensures steps { ForSome (S.known source.old).left (λ xs. Steps result self.old xs self.new (S.known source.new).left) }
         ensures bytes { Keeps result self.old self.new }
-        ensures count { S.faults source.old ≤ S.faults source.new }
-        ensures failed { result ≡ Err ReadFault → Rose (S.faults source.old) (S.faults source.new) }
+        ensures count { (S.known source.old).faults ≤ (S.known source.new).faults }
+        ensures failed { result ≡ Err stop.ReadFault → Rose (S.known source.old).faults (S.known source.new).faults }
     {
         self.size = 0;
         let mut first = [0; 8];
@@ -125,7 +128,7 @@ impl NgReader {
         }
         let offset = self.offset;
         if self.room == 0 {
-            return Err(NgNext::TooMany { offset });
+            return Err(Stop::TooMany { offset });
         }
         let (head, size) = read_block(
             source,
@@ -147,13 +150,13 @@ impl NgReader {
     }
 
     // What is answered where no byte is left: a capture has a block.
-    fn at_end(&self) -> NgNext
+    fn at_end(&self) -> Stop
         ensures { result ≡ at_end self.now.place.section self.now.place.offset }
     {
         if self.section.has_begun() {
-            NgNext::End
+            Stop::End
         } else {
-            NgNext::Truncated {
+            Stop::Truncated {
                 offset: self.offset,
             }
         }

@@ -3,9 +3,9 @@ ghost use Rattle.std.specs.Option.{ForSome};
 ghost use Rattle.sr_io.specs.Faults.{Rose};
 ghost use Rattle.sr_pcapng.specs.Options.{option_of, option_sized, walk, kept, FitsIn};
 ghost use Rattle.sr_pcapng.specs.Reading.{Keeps, Steps, Walks};
-ghost use Rattle.sr_pcapng.specs.declared.ng_next.NgNext.TheVariants.{ReadFault};
+ghost use Rattle.sr_pcapng.specs.declared.stop.Stop.TheVariants.{ReadFault};
 
-use crate::NgNext;
+use crate::stop::Stop;
 use crate::endian::Endian;
 use crate::option_head::OptionHead;
 use crate::reading::{fill, skip};
@@ -23,11 +23,11 @@ pub fn walk<S: Source>(
     endian: Endian,
     offset: u64,
     size: u64,
-) -> Result<(Option<u8>, u64), NgNext>
+) -> Result<(Option<u8>, u64), Stop>
     requires { 0 < length scratch.old }
-    ensures walks { ForSome (S.left source.old) (λ xs. Walks result (walk size endian offset size None xs) (S.left source.new)) }
-    ensures count { S.faults source.old ≤ S.faults source.new }
-    ensures failed { result ≡ Err ReadFault → Rose (S.faults source.old) (S.faults source.new) }
+    ensures walks { ForSome (S.known source.old).left (λ xs. Walks result (walk size endian offset size None xs) (S.known source.new).left) }
+    ensures count { (S.known source.old).faults ≤ (S.known source.new).faults }
+    ensures failed { result ≡ Err ReadFault → Rose (S.known source.old).faults (S.known source.new).faults }
     ensures more { IfOk result (λ r. r.1 ≤ size) }
 {
     let mut room = size;
@@ -52,12 +52,12 @@ fn step<S: Source>(
     offset: u64,
     room: u64,
     resolution: Option<u8>,
-) -> Result<Option<(u64, Option<u8>)>, NgNext>
+) -> Result<Option<(u64, Option<u8>)>, Stop>
     requires { 0 < length scratch.old }
-    ensures steps { ForSome (S.left source.old) (λ xs. Steps result (option_of endian offset room (take 4 xs)) resolution (drop 4 xs) (S.left source.new)) }
+    ensures steps { ForSome (S.known source.old).left (λ xs. Steps result (option_of endian offset room (take 4 xs)) resolution (drop 4 xs) (S.known source.new).left) }
     ensures within { IfOk result (λ r. IfSome r (λ s. 4 + s.0 ≤ room)) }
-    ensures count { S.faults source.old ≤ S.faults source.new }
-    ensures failed { result ≡ Err ReadFault → Rose (S.faults source.old) (S.faults source.new) }
+    ensures count { (S.known source.old).faults ≤ (S.known source.new).faults }
+    ensures failed { result ≡ Err ReadFault → Rose (S.known source.old).faults (S.known source.new).faults }
 {
     let mut head = [0; 4];
     let n = fill(source, &mut head, 4)?;
@@ -77,13 +77,13 @@ fn read_value<S: Source>(
     size: u64,
     tells: bool,
     resolution: Option<u8>,
-) -> Result<Option<u8>, NgNext>
+) -> Result<Option<u8>, Stop>
     requires room { 0 < length scratch.old }
     requires size { tells ≡ true → 4 ≤ size }
-    ensures keeps { ForSome (S.left source.old) (λ xs. Keeps result (kept resolution tells xs) (drop size xs) (S.left source.new)) }
-    ensures count { S.faults source.old ≤ S.faults source.new }
+    ensures keeps { ForSome (S.known source.old).left (λ xs. Keeps result (kept resolution tells xs) (drop size xs) (S.known source.new).left) }
+    ensures count { (S.known source.old).faults ≤ (S.known source.new).faults }
     ensures error { IfErr result (λ why. why ≡ ReadFault) }
-    ensures failed { IsErr result → Rose (S.faults source.old) (S.faults source.new) }
+    ensures failed { IsErr result → Rose (S.known source.old).faults (S.known source.new).faults }
 {
     if resolution.is_some() || !tells {
         skip(source, scratch, size)?;
@@ -102,13 +102,13 @@ fn option_head(
     offset: u64,
     room: u64,
     bytes: &[u8],
-) -> Result<OptionHead, NgNext>
+) -> Result<OptionHead, Stop>
     ensures option { result ≡ option_of endian offset room bytes.now }
     ensures judged { result ≢ Err ReadFault }
     ensures fits { IfOk result (λ h. FitsIn h room) }
 {
     if bytes.len() < 4 {
-        return Err(NgNext::Truncated { offset });
+        return Err(Stop::Truncated { offset });
     }
     option_sized(
         offset,
@@ -120,7 +120,7 @@ fn option_head(
 
 // What an option of this code is, with so many bytes of a value.
 #[tactic(auto, unfolding(crate::specs::Options::option_sized))]
-fn option_sized(offset: u64, room: u64, code: u16, size: u16) -> Result<OptionHead, NgNext>
+fn option_sized(offset: u64, room: u64, code: u16, size: u16) -> Result<OptionHead, Stop>
     ensures option { result ≡ option_sized offset room code size }
     ensures judged { result ≢ Err ReadFault }
     ensures fits { IfOk result (λ h. FitsIn h room) }
@@ -130,7 +130,7 @@ fn option_sized(offset: u64, room: u64, code: u16, size: u16) -> Result<OptionHe
     }
     let padded = padded(size as u32);
     if 4 + padded > room {
-        return Err(NgNext::Block { offset });
+        return Err(Stop::Block { offset });
     }
     Ok(OptionHead::Value {
         size: padded,

@@ -1,8 +1,8 @@
 ghost use Rattle.std.specs.Prelude.{◌≡◌, ◌≢◌, ◌+◌, ◌<◌, ◌≤◌, ◌++◌, ◌∷◌, [], length, Err, Some, None, IfOk, IsOk, is_some};
 ghost use Rattle.sr_pcapng.specs.Front.{endian_of, front_of, front_in, front_sized, header_of, header_in, packet_of, packet_sized, is_bad, padded, HasSize, HasRoom};
-ghost use Rattle.sr_pcapng.specs.declared.ng_next.NgNext.TheVariants.{ReadFault};
+ghost use Rattle.sr_pcapng.specs.declared.stop.Stop.TheVariants.{ReadFault};
 
-use crate::NgNext;
+use crate::stop::Stop;
 use crate::endian::Endian;
 use crate::front::Front;
 use crate::interface::Interface;
@@ -86,7 +86,7 @@ impl Section {
 
     /// What a block is, by its first eight bytes, or by all that there are. The error is the first check that fails.
     #[tactic(auto, unfolding(crate::specs::Front::front_of))]
-    pub fn front(&self, offset: u64, bytes: &[u8]) -> Result<Front, NgNext>
+    pub fn front(&self, offset: u64, bytes: &[u8]) -> Result<Front, Stop>
         requires { length bytes.now ≤ 8 }
         ensures exact { result ≡ front_of self.now offset bytes.now }
         ensures judged { result ≢ Err ReadFault }
@@ -95,17 +95,17 @@ impl Section {
         ensures room { IfOk result (λ f. HasRoom f (length self.now.interfaces)) }
     {
         if bytes.len() < 4 {
-            return Err(NgNext::Truncated { offset });
+            return Err(Stop::Truncated { offset });
         }
         if Endian::Big.read_u32(bytes) == SECTION_HEADER {
             if bytes.len() < 8 {
-                return Err(NgNext::Truncated { offset });
+                return Err(Stop::Truncated { offset });
             }
             return Ok(Front::Section);
         }
         match self.endian {
             Some(endian) => front_in(endian, self.interfaces.len(), offset, bytes),
-            None => Err(NgNext::Block { offset }),
+            None => Err(Stop::Block { offset }),
         }
     }
 
@@ -117,25 +117,25 @@ impl Section {
         offset: u64,
         size: u32,
         bytes: &[u8],
-    ) -> Result<PacketHead, NgNext>
+    ) -> Result<PacketHead, Stop>
         ensures exact { result ≡ packet_of endian self.now.interfaces offset size bytes.now }
         ensures judged { result ≢ Err ReadFault }
         ensures fits { IfOk result (λ h. (h.captured ≤ 262144) × (32 + h.captured ≤ size)) }
     {
         if bytes.len() < 4 {
-            return Err(NgNext::Truncated { offset });
+            return Err(Stop::Truncated { offset });
         }
         match self.interfaces.get(endian.read_u32(bytes) as usize) {
             Some(interface) => {
                 if bytes.len() < 16 {
-                    return Err(NgNext::Truncated { offset });
+                    return Err(Stop::Truncated { offset });
                 }
                 let high = endian.read_u32(&bytes[4..]) as u64;
                 let low = endian.read_u32(&bytes[8..]) as u64;
                 let captured = endian.read_u32(&bytes[12..]);
                 packet_sized(offset, size, captured, *interface, high * (1 << 32) + low)
             }
-            None => Err(NgNext::Block { offset }),
+            None => Err(Stop::Block { offset }),
         }
     }
 }
@@ -161,7 +161,7 @@ fn front_in(
     interfaces: usize,
     offset: u64,
     bytes: &[u8],
-) -> Result<Front, NgNext>
+) -> Result<Front, Stop>
     requires { 4 ≤ length bytes.now }
     ensures exact { result ≡ front_in endian interfaces offset bytes.now }
     ensures judged { result ≢ Err ReadFault }
@@ -171,43 +171,43 @@ fn front_in(
 {
     let kind = endian.read_u32(bytes);
     if kind == 2 || kind == 3 {
-        return Err(NgNext::Block { offset });
+        return Err(Stop::Block { offset });
     }
     if bytes.len() < 8 {
-        return Err(NgNext::Truncated { offset });
+        return Err(Stop::Truncated { offset });
     }
     front_sized(interfaces, offset, kind, endian.read_u32(&bytes[4..]))
 }
 
 // What a block of this type is, by its length.
 #[tactic(auto, unfolding(crate::specs::Front::front_sized))]
-fn front_sized(interfaces: usize, offset: u64, kind: u32, size: u32) -> Result<Front, NgNext>
+fn front_sized(interfaces: usize, offset: u64, kind: u32, size: u32) -> Result<Front, Stop>
     ensures exact { result ≡ front_sized interfaces offset kind size }
     ensures judged { result ≢ Err ReadFault }
     ensures fits { IfOk result HasSize }
     ensures room { IfOk result (λ f. HasRoom f interfaces) }
 {
     match kind {
-        1 if is_bad(20, size) => Err(NgNext::Block { offset }),
+        1 if is_bad(20, size) => Err(Stop::Block { offset }),
         1 if interfaces < MOST_INTERFACES => Ok(Front::Interface { size }),
-        1 => Err(NgNext::TooMany { offset }),
-        6 if is_bad(32, size) => Err(NgNext::Block { offset }),
+        1 => Err(Stop::TooMany { offset }),
+        6 if is_bad(32, size) => Err(Stop::Block { offset }),
         6 => Ok(Front::Packet { size }),
-        _ if is_bad(12, size) => Err(NgNext::Block { offset }),
+        _ if is_bad(12, size) => Err(Stop::Block { offset }),
         _ => Ok(Front::Other { size }),
     }
 }
 
 /// The byte order and the length of a section header, by the four bytes of its length and the 16 bytes after them, or all that there are.
 #[tactic(auto, unfolding(crate::specs::Front::header_of))]
-pub fn section_header(offset: u64, size: &[u8], bytes: &[u8]) -> Result<(Endian, u32), NgNext>
+pub fn section_header(offset: u64, size: &[u8], bytes: &[u8]) -> Result<(Endian, u32), Stop>
     requires { 4 ≤ length size.now }
     ensures exact { result ≡ header_of offset size.now bytes.now }
     ensures judged { result ≢ Err ReadFault }
     ensures fits { IfOk result (λ h. 28 ≤ h.1) }
 {
     if bytes.len() < 4 {
-        return Err(NgNext::Truncated { offset });
+        return Err(Stop::Truncated { offset });
     }
     if Endian::Big.read_u32(bytes) == MAGIC {
         return header_in(Endian::Big, offset, size, bytes);
@@ -215,7 +215,7 @@ pub fn section_header(offset: u64, size: &[u8], bytes: &[u8]) -> Result<(Endian,
     if Endian::Little.read_u32(bytes) == MAGIC {
         return header_in(Endian::Little, offset, size, bytes);
     }
-    Err(NgNext::Magic)
+    Err(Stop::Magic)
 }
 
 // The same of a section header in this byte order.
@@ -225,7 +225,7 @@ fn header_in(
     offset: u64,
     size: &[u8],
     bytes: &[u8],
-) -> Result<(Endian, u32), NgNext>
+) -> Result<(Endian, u32), Stop>
     requires size { 4 ≤ length size.now }
     requires magic { 4 ≤ length bytes.now }
     ensures exact { result ≡ header_in endian offset size.now bytes.now }
@@ -234,13 +234,13 @@ fn header_in(
 {
     let size = endian.read_u32(size);
     if is_bad(28, size) {
-        return Err(NgNext::Block { offset });
+        return Err(Stop::Block { offset });
     }
     if bytes.len() < 6 {
-        return Err(NgNext::Truncated { offset });
+        return Err(Stop::Truncated { offset });
     }
     if endian.read_u16(&bytes[4..]) != 1 {
-        return Err(NgNext::Major);
+        return Err(Stop::Major);
     }
     Ok((endian, size))
 }
@@ -253,19 +253,19 @@ fn packet_sized(
     captured: u32,
     interface: Interface,
     time: u64,
-) -> Result<PacketHead, NgNext>
+) -> Result<PacketHead, Stop>
     ensures exact { result ≡ packet_sized offset size captured interface time }
     ensures judged { result ≢ Err ReadFault }
     ensures fits { IfOk result (λ h. (h.captured ≤ 262144) × (32 + h.captured ≤ size)) }
 {
     if captured > MOST_CAPTURED {
-        return Err(NgNext::TooLong {
+        return Err(Stop::TooLong {
             offset,
             length: captured,
         });
     }
     if 32 + padded(captured) > size as u64 {
-        return Err(NgNext::Block { offset });
+        return Err(Stop::Block { offset });
     }
     Ok(PacketHead {
         ms: interface.milliseconds(time),

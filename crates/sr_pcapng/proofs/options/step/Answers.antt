@@ -2,7 +2,7 @@ use Rattle.std.proofs.Common.{◌≡◌, ℕ, List, Option, take, drop, Ok, Err,
 use Rattle.std.proofs.lemmas.Result.{err_from_is_err_and}
 use Rattle.sr_pcapng.specs.Options.{option_of}
 use Rattle.sr_pcapng.specs.Reading.{Steps}
-use Rattle.sr_pcapng.specs.declared.ng_next.NgNext.TheVariants.{ReadFault}
+use Rattle.sr_pcapng.specs.declared.stop.Stop.TheVariants.{ReadFault}
 use Rattle.sr_pcapng.specs.declared.option_head.OptionHead.{OptionHead}
 use Rattle.sr_pcapng.proofs.options.step.Goals as goal
 
@@ -11,7 +11,7 @@ returns-in_err-option_head-clause-steps g c = λ xs h.
     let read = c.in_ok-n.ensures.bytes xs h in
     let r = err_from_is_err_and c.from_residual-in_err-option_head.result c.from_residual-in_err-option_head.ensures.1 in
     let head = option_of c.args.endian c.args.offset c.args.room in
-    subst (λ z. Steps z (head (take 4 xs)) c.args.resolution (drop 4 xs) (g.S.Source.left c.fill.new.source)) (sym (r.1 ∙ ap (λ y. Err y) r.2))
+    subst (λ z. Steps z (head (take 4 xs)) c.args.resolution (drop 4 xs) (g.S.Source.known c.fill.new.source).left) (sym (r.1 ∙ ap (λ y. Err y) r.2))
     (inr (ap head (sym read.1) ∙ sym c.in_err-option_head.ensures.option))
 
 pub returns-in_err-option_head-clause-failed : goal.returns-in_err-option_head-clause-failed

@@ -12,7 +12,7 @@ returns-in_err-size-clause-walks g c = λ xs h.
     let w = c.loop-room.invariant.walked xs h in
     let step = c.in_err-size.ensures.steps w.rest w.told in
     let all = walk c.args.size c.args.endian c.args.offset c.args.size None xs in
-    subst (λ z. Walks z all (g.S.Source.left c.step.new.source)) (sym (r.1 ∙ ap (λ y. Err y) r.2))
+    subst (λ z. Walks z all (g.S.Source.known c.step.new.source).left) (sym (r.1 ∙ ap (λ y. Err y) r.2))
     (elim step [
       | inl fault ↦ inl fault
       | inr e ↦ inr (walks_error c.args.endian c.args.offset c.loop-room.room c.loop-room.resolution _ all why w (omega arith) e)
@@ -25,7 +25,7 @@ loop-room-preserved g c = record {
   walked = λ xs h.
       let w = c.loop-room.invariant.walked xs h in
       let head = option_of c.args.endian c.args.offset c.loop-room.room (take 4 w.rest) in
-      let step = subst (λ o. Steps (Ok o) head c.loop-room.resolution (drop 4 w.rest) (g.S.Source.left c.step.new.source)) c.in-Some.is (c.in_ok-size.ensures.steps w.rest w.told) in
+      let step = subst (λ o. Steps (Ok o) head c.loop-room.resolution (drop 4 w.rest) (g.S.Source.known c.step.new.source).left) c.in-Some.is (c.in_ok-size.ensures.steps w.rest w.told) in
       walks_value c.args.endian c.args.offset c.loop-room.room c.loop-room.resolution c.in-Some.now c.in-Some.size _ _ _ w (omega arith) step;
   count = let i = c.loop-room.invariant.count in let s = c.in_ok-size.ensures.count in omega arith;
 }
@@ -34,7 +34,7 @@ pub returns-in-None-clause-walks : goal.returns-in-None-clause-walks
 returns-in-None-clause-walks g c = λ xs h.
     let w = c.loop-room.invariant.walked xs h in
     let head = option_of c.args.endian c.args.offset c.loop-room.room (take 4 w.rest) in
-    let step = subst (λ o. Steps (Ok o) head c.loop-room.resolution (drop 4 w.rest) (g.S.Source.left c.step.new.source)) c.in-None.is (c.in_ok-size.ensures.steps w.rest w.told) in
+    let step = subst (λ o. Steps (Ok o) head c.loop-room.resolution (drop 4 w.rest) (g.S.Source.known c.step.new.source).left) c.in-None.is (c.in_ok-size.ensures.steps w.rest w.told) in
     record {
       rest = drop 4 w.rest;
       told = step.1;

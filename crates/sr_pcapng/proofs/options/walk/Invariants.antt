@@ -7,9 +7,9 @@ abbrev pub invariant-loop-room : goal.invariant-loop-room
 invariant-loop-room g l = record {
   within : l.room ≤ l.size;
   scratch : 0 < length l.scratch;
-  walked : (xs : List ℕ) → g.S.Source.left l.fn.source ≡ Some xs
-      → WalksOn l.endian l.offset l.room l.resolution (g.S.Source.left l.source) (walk l.size l.endian l.offset l.size None xs);
-  count : g.S.Source.faults l.fn.source ≤ g.S.Source.faults l.source;
+  walked : (xs : List ℕ) → (g.S.Source.known l.fn.source).left ≡ Some xs
+      → WalksOn l.endian l.offset l.room l.resolution (g.S.Source.known l.source).left (walk l.size l.endian l.offset l.size None xs);
+  count : (g.S.Source.known l.fn.source).faults ≤ (g.S.Source.known l.source).faults;
 }
 
 abbrev pub decreases-loop-room : goal.decreases-loop-room

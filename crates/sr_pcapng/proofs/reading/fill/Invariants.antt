@@ -5,8 +5,8 @@ use Rattle.sr_pcapng.proofs.reading.fill.Given as goal
 abbrev pub invariant-loop-at : goal.invariant-loop-at
 invariant-loop-at g l = record {
   within : l.at ≤ l.size;
-  holds : (xs : List ℕ) → g.S.Source.left l.fn.source ≡ Some xs → Holds l.at xs l.into (g.S.Source.left l.source);
-  count : g.S.Source.faults l.fn.source ≤ g.S.Source.faults l.source;
+  holds : (xs : List ℕ) → (g.S.Source.known l.fn.source).left ≡ Some xs → Holds l.at xs l.into (g.S.Source.known l.source).left;
+  count : (g.S.Source.known l.fn.source).faults ≤ (g.S.Source.known l.source).faults;
 }
 
 abbrev pub decreases-loop-at : goal.decreases-loop-at

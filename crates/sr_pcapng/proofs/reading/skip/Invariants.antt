@@ -5,8 +5,8 @@ abbrev pub invariant-loop-at : goal.invariant-loop-at
 invariant-loop-at g l = record {
   within : l.at ≤ l.size;
   room : 0 < length l.scratch;
-  rest : (xs : List ℕ) → g.S.Source.left l.fn.source ≡ Some xs → g.S.Source.left l.source ≡ Some (drop l.at xs);
-  count : g.S.Source.faults l.fn.source ≤ g.S.Source.faults l.source;
+  rest : (xs : List ℕ) → (g.S.Source.known l.fn.source).left ≡ Some xs → (g.S.Source.known l.source).left ≡ Some (drop l.at xs);
+  count : (g.S.Source.known l.fn.source).faults ≤ (g.S.Source.known l.source).faults;
 }
 
 abbrev pub decreases-loop-at : goal.decreases-loop-at

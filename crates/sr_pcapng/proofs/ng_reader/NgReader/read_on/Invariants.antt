@@ -5,8 +5,8 @@ use Rattle.sr_pcapng.proofs.ng_reader.NgReader.read_on.Given as goal
 abbrev pub invariant-loop-head : goal.invariant-loop-head
 invariant-loop-head g l = record {
   going : l.self.ended ≡ None;
-  passed : (xs : List ℕ) → g.S.Source.left l.fn.source ≡ Some xs → PassesOver l.fn.self xs l.self (g.S.Source.left l.source);
-  count : g.S.Source.faults l.fn.source ≤ g.S.Source.faults l.source;
+  passed : (xs : List ℕ) → (g.S.Source.known l.fn.source).left ≡ Some xs → PassesOver l.fn.self xs l.self (g.S.Source.known l.source).left;
+  count : (g.S.Source.known l.fn.source).faults ≤ (g.S.Source.known l.source).faults;
 }
 
 abbrev pub decreases-loop-head : goal.decreases-loop-head

@@ -1,7 +1,7 @@
 use Rattle.std.proofs.Common.{◌≡◌, ℕ, suc, ◌-◌, List, Err, length, inr, ap, sym, ◌∙◌, arith}
 use Rattle.std.proofs.lemmas.Result.{err_from_is_err_and}
 use Rattle.std.proofs.lemmas.List.{with_items_is}
-use Rattle.sr_pcapng.specs.declared.ng_next.NgNext.{NgNext}
+use Rattle.sr_pcapng.specs.declared.stop.Stop.{Stop}
 use Rattle.sr_pcapng.proofs.Blocks.{err_then}
 use Rattle.sr_pcapng.proofs.Nexts.{next_none, next_full, next_err, next_packet, next_pass, steps_err}
 use Rattle.sr_pcapng.proofs.ng_reader.NgReader.step.Goals as goal
@@ -10,7 +10,7 @@ pub returns-then-n-eq0-clause-steps : goal.returns-then-n-eq0-clause-steps
 returns-then-n-eq0-clause-steps g c = rw (← c.self.view_is) (λ xs h.
     let read = c.in_ok-n.ensures.bytes xs h in
     let none : length xs ≡ 0 = let n = read.0 in omega arith in
-    inr (next_none c.self.inside.room c.self.inside.offset c.self.inside.section xs none ∙ ap (λ (y : NgNext). Err y) (sym c.at_end.ensures)))
+    inr (next_none c.self.inside.room c.self.inside.offset c.self.inside.section xs none ∙ ap (λ (y : Stop). Err y) (sym c.at_end.ensures)))
 
 pub returns-then-self-eq0-clause-steps : goal.returns-then-self-eq0-clause-steps
 returns-then-self-eq0-clause-steps g c = rw (← c.self.view_is) (λ xs h.
