@@ -1,6 +1,6 @@
 ghost use Rattle.std.specs.Prelude.{◌≡◌, ◌≢◌, ℕ, ◌+◌, ◌<◌, ◌≤◌, List, length, take, drop, Some, None, Err, IfOk, IfSome, option_map};
 ghost use Rattle.std.specs.Option.{ForSome};
-ghost use Rattle.sr_io.specs.Faults.{Rose};
+ghost use Rattle.sr_io.specs.Faults.{Counts};
 ghost use Rattle.sr_pcapng.specs.Block.{block_at, last_fault, closed, section_block, interface_block, packet_block, other_block};
 ghost use Rattle.sr_pcapng.specs.Front.{SectionView};
 ghost use Rattle.sr_pcapng.specs.Reading.{Gives};
@@ -34,8 +34,7 @@ pub fn read_block<S: Source>(
     requires first { length first.now ≤ 8 }
     ensures reads { (xs : List ℕ) → (S.known source.old).left ≡ Some (drop 8 xs) → first.now ≡ take 8 xs → Gives (λ r rest. record { packet = option_map (λ head. record { head = head; bytes = take head.captured packet.new }) r.0; section = section.new; size = r.1; rest = rest }) result (block_at section.old offset xs) (S.known source.new).left }
     ensures few { IfOk result (λ r. IfSome r.0 (λ head. head.captured ≤ 262144)) }
-    ensures count { (S.known source.old).faults ≤ (S.known source.new).faults }
-    ensures failed { result ≡ Err ReadFault → Rose (S.known source.old).faults (S.known source.new).faults }
+    ensures faults { Counts (result ≡ Err ReadFault) (S.known source.old).faults (S.known source.new).faults }
 {
     match section.front(offset, first)? {
         Front::Section => {
@@ -68,8 +67,7 @@ fn read_section<S: Source>(
     requires scratch { 0 < length scratch.old }
     requires size { 4 ≤ length size.now }
     ensures reads { ForSome (S.known source.old).left (λ xs. Gives (λ n rest. record { packet = None; section = section.new; size = n; rest = rest }) result (section_block offset size.now xs) (S.known source.new).left) }
-    ensures count { (S.known source.old).faults ≤ (S.known source.new).faults }
-    ensures failed { result ≡ Err ReadFault → Rose (S.known source.old).faults (S.known source.new).faults }
+    ensures faults { Counts (result ≡ Err ReadFault) (S.known source.old).faults (S.known source.new).faults }
 {
     let mut fields = [0; 16];
     let n = fill(source, &mut fields, 16)?;
@@ -91,8 +89,7 @@ fn read_interface<S: Source>(
     requires size { 20 ≤ size }
     requires room { length section.old.interfaces < 1024 }
     ensures reads { ForSome (S.known source.old).left (λ xs. Gives (λ _ rest. record { packet = None; section = section.new; size = size; rest = rest }) result (interface_block section.old offset size xs) (S.known source.new).left) }
-    ensures count { (S.known source.old).faults ≤ (S.known source.new).faults }
-    ensures failed { result ≡ Err ReadFault → Rose (S.known source.old).faults (S.known source.new).faults }
+    ensures faults { Counts (result ≡ Err ReadFault) (S.known source.old).faults (S.known source.new).faults }
 {
     let endian = section.endian();
     let mut fields = [0; 8];
@@ -121,8 +118,7 @@ fn read_packet<S: Source>(
     requires size { 32 ≤ size }
     ensures reads { ForSome (S.known source.old).left (λ xs. Gives (λ head rest. record { packet = Some (record { head = head; bytes = take head.captured packet.new }); section = section.now; size = size; rest = rest }) result (packet_block section.now offset size xs) (S.known source.new).left) }
     ensures few { IfOk result (λ head. head.captured ≤ 262144) }
-    ensures count { (S.known source.old).faults ≤ (S.known source.new).faults }
-    ensures failed { result ≡ Err ReadFault → Rose (S.known source.old).faults (S.known source.new).faults }
+    ensures faults { Counts (result ≡ Err ReadFault) (S.known source.old).faults (S.known source.new).faults }
 {
     let endian = section.endian();
     let mut fields = [0; 20];
@@ -148,8 +144,7 @@ fn read_other<S: Source>(
     requires scratch { 0 < length scratch.old }
     requires size { 12 ≤ size }
     ensures reads { ForSome (S.known source.old).left (λ xs. Gives (λ _ rest. record { packet = None; section = section.now; size = size; rest = rest }) result (other_block section.now offset size xs) (S.known source.new).left) }
-    ensures count { (S.known source.old).faults ≤ (S.known source.new).faults }
-    ensures failed { result ≡ Err ReadFault → Rose (S.known source.old).faults (S.known source.new).faults }
+    ensures faults { Counts (result ≡ Err ReadFault) (S.known source.old).faults (S.known source.new).faults }
 {
     close(
         source,
@@ -172,8 +167,7 @@ fn close<S: Source>(
 ) -> Result<(), Stop>
     requires { 0 < length scratch.old }
     ensures closes { ForSome (S.known source.old).left (λ xs. Gives (λ _ rest. rest) result (closed endian offset size more xs) (S.known source.new).left) }
-    ensures count { (S.known source.old).faults ≤ (S.known source.new).faults }
-    ensures failed { result ≡ Err ReadFault → Rose (S.known source.old).faults (S.known source.new).faults }
+    ensures faults { Counts (result ≡ Err ReadFault) (S.known source.old).faults (S.known source.new).faults }
 {
     skip(source, scratch, more)?;
     let mut last = [0; 4];

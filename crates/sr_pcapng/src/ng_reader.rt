@@ -1,6 +1,6 @@
 ghost use Rattle.std.specs.Prelude.{◌≡◌, ◌+◌, ◌<◌, ◌≤◌, [], None, Ok, Err, Some, IfOk};
 ghost use Rattle.std.specs.Option.{ForSome};
-ghost use Rattle.sr_io.specs.Faults.{Rose};
+ghost use Rattle.sr_io.specs.Faults.{Counts};
 ghost use Rattle.sr_pcapng.specs.Next.{front_place, at_end};
 ghost use Rattle.sr_pcapng.specs.Reader.{Answers, Ends, Keeps, Steps, next_at};
 ghost use Rattle.sr_pcapng.specs.declared.ng_next.NgNext.TheVariants.{ReadFault};
@@ -76,8 +76,7 @@ impl NgReader {
         ensures packet { self.old.ended ≡ None → ForSome (S.known source.old).left (λ xs. Answers result (next_at self.old.place xs) self.new (S.known source.new).left) }
         ensures ends { self.old.ended ≡ None → Ends result self.new }
         ensures again { ForSome self.old.ended (λ why. (result ≡ why) × (self.new ≡ self.old) × (source.new ≡ source.old)) }
-        ensures count { (S.known source.old).faults ≤ (S.known source.new).faults }
-        ensures read_fault { self.old.ended ≡ None → result ≡ ReadFault → Rose (S.known source.old).faults (S.known source.new).faults }
+        ensures faults { self.old.ended ≡ None → Counts (result ≡ ReadFault) (S.known source.old).faults (S.known source.new).faults }
     {
         match self.ended {
             Some(why) => why,
@@ -90,8 +89,7 @@ impl NgReader {
         requires { self.old.ended ≡ None }
         ensures packet { ForSome (S.known source.old).left (λ xs. Answers result (next_at self.old.place xs) self.new (S.known source.new).left) }
         ensures ends { Ends result self.new }
-        ensures count { (S.known source.old).faults ≤ (S.known source.new).faults }
-        ensures read_fault { result ≡ ReadFault → Rose (S.known source.old).faults (S.known source.new).faults }
+        ensures faults { Counts (result ≡ ReadFault) (S.known source.old).faults (S.known source.new).faults }
     {
         loop {
             let offset = self.offset;
@@ -117,8 +115,7 @@ impl NgReader {
     fn step<S: Source>(&mut self, source: &mut S) -> Result<Option<PacketHead>, Stop>
         ensures steps { ForSome (S.known source.old).left (λ xs. Steps result self.old xs self.new (S.known source.new).left) }
         ensures bytes { Keeps result self.old self.new }
-        ensures count { (S.known source.old).faults ≤ (S.known source.new).faults }
-        ensures failed { result ≡ Err stop.ReadFault → Rose (S.known source.old).faults (S.known source.new).faults }
+        ensures faults { Counts (result ≡ Err stop.ReadFault) (S.known source.old).faults (S.known source.new).faults }
     {
         self.size = 0;
         let mut first = [0; 8];

@@ -1,6 +1,6 @@
 ghost use Rattle.std.specs.Prelude.{◌≡◌, ◌≢◌, ℕ, ◌+◌, ◌<◌, ◌≤◌, length, take, drop, true, Some, None, Err, IsErr, IfOk, IfErr, IfSome};
 ghost use Rattle.std.specs.Option.{ForSome};
-ghost use Rattle.sr_io.specs.Faults.{Rose};
+ghost use Rattle.sr_io.specs.Faults.{Counts};
 ghost use Rattle.sr_pcapng.specs.Options.{option_of, option_sized, walk, kept, FitsIn};
 ghost use Rattle.sr_pcapng.specs.Reading.{Keeps, Steps, Walks};
 ghost use Rattle.sr_pcapng.specs.declared.stop.Stop.TheVariants.{ReadFault};
@@ -26,8 +26,7 @@ pub fn walk<S: Source>(
 ) -> Result<(Option<u8>, u64), Stop>
     requires { 0 < length scratch.old }
     ensures walks { ForSome (S.known source.old).left (λ xs. Walks result (walk size endian offset size None xs) (S.known source.new).left) }
-    ensures count { (S.known source.old).faults ≤ (S.known source.new).faults }
-    ensures failed { result ≡ Err ReadFault → Rose (S.known source.old).faults (S.known source.new).faults }
+    ensures faults { Counts (result ≡ Err ReadFault) (S.known source.old).faults (S.known source.new).faults }
     ensures more { IfOk result (λ r. r.1 ≤ size) }
 {
     let mut room = size;
@@ -56,8 +55,7 @@ fn step<S: Source>(
     requires { 0 < length scratch.old }
     ensures steps { ForSome (S.known source.old).left (λ xs. Steps result (option_of endian offset room (take 4 xs)) resolution (drop 4 xs) (S.known source.new).left) }
     ensures within { IfOk result (λ r. IfSome r (λ s. 4 + s.0 ≤ room)) }
-    ensures count { (S.known source.old).faults ≤ (S.known source.new).faults }
-    ensures failed { result ≡ Err ReadFault → Rose (S.known source.old).faults (S.known source.new).faults }
+    ensures faults { Counts (result ≡ Err ReadFault) (S.known source.old).faults (S.known source.new).faults }
 {
     let mut head = [0; 4];
     let n = fill(source, &mut head, 4)?;
@@ -81,9 +79,8 @@ fn read_value<S: Source>(
     requires room { 0 < length scratch.old }
     requires size { tells ≡ true → 4 ≤ size }
     ensures keeps { ForSome (S.known source.old).left (λ xs. Keeps result (kept resolution tells xs) (drop size xs) (S.known source.new).left) }
-    ensures count { (S.known source.old).faults ≤ (S.known source.new).faults }
     ensures error { IfErr result (λ why. why ≡ ReadFault) }
-    ensures failed { IsErr result → Rose (S.known source.old).faults (S.known source.new).faults }
+    ensures faults { Counts (IsErr result) (S.known source.old).faults (S.known source.new).faults }
 {
     if resolution.is_some() || !tells {
         skip(source, scratch, size)?;

@@ -1,6 +1,6 @@
 ghost use Rattle.std.specs.Prelude.{◌≡◌, ℕ, ◌<◌, ◌≤◌, List, length, take, drop, Some, IfOk, IfErr, IsErr, OnOk};
 ghost use Rattle.std.specs.Option.{ForSome};
-ghost use Rattle.sr_io.specs.Faults.{Rose};
+ghost use Rattle.sr_io.specs.Faults.{Counts};
 ghost use Rattle.sr_pcapng.specs.Reading.{Fills};
 ghost use Rattle.sr_pcapng.specs.declared.stop.Stop.TheVariants.{ReadFault};
 
@@ -12,9 +12,8 @@ pub fn fill<S: Source>(source: &mut S, into: &mut [u8], size: usize) -> Result<u
     requires { size ≤ length into.old }
     ensures bytes { ForSome (S.known source.old).left (λ xs. Fills result size xs into.new (S.known source.new).left) }
     ensures within { IfOk result (λ n. n ≤ size) }
-    ensures count { (S.known source.old).faults ≤ (S.known source.new).faults }
     ensures error { IfErr result (λ why. why ≡ ReadFault) }
-    ensures failed { IsErr result → Rose (S.known source.old).faults (S.known source.new).faults }
+    ensures faults { Counts (IsErr result) (S.known source.old).faults (S.known source.new).faults }
 {
     let mut at = 0;
     while at < size {
@@ -31,9 +30,8 @@ pub fn fill<S: Source>(source: &mut S, into: &mut [u8], size: usize) -> Result<u
 pub fn skip<S: Source>(source: &mut S, scratch: &mut [u8], size: u64) -> Result<(), Stop>
     requires { 0 < length scratch.old }
     ensures bytes { ForSome (S.known source.old).left (λ xs. OnOk result ((S.known source.new).left ≡ Some (drop size xs))) }
-    ensures count { (S.known source.old).faults ≤ (S.known source.new).faults }
     ensures error { IfErr result (λ why. why ≡ ReadFault) }
-    ensures failed { IsErr result → Rose (S.known source.old).faults (S.known source.new).faults }
+    ensures faults { Counts (IsErr result) (S.known source.old).faults (S.known source.new).faults }
 {
     let mut at = 0;
     while at < size {

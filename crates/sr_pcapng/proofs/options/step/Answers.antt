@@ -14,12 +14,6 @@ returns-in_err-option_head-clause-steps g c = λ xs h.
     subst (λ z. Steps z (head (take 4 xs)) c.args.resolution (drop 4 xs) (g.S.Source.known c.fill.new.source).left) (sym (r.1 ∙ ap (λ y. Err y) r.2))
     (inr (ap head (sym read.1) ∙ sym c.in_err-option_head.ensures.option))
 
-pub returns-in_err-option_head-clause-failed : goal.returns-in_err-option_head-clause-failed
-returns-in_err-option_head-clause-failed g c = λ f.
-    let r = err_from_is_err_and c.from_residual-in_err-option_head.result c.from_residual-in_err-option_head.ensures.1 in
-    let e : c.in_err-option_head.field-0.0 ≡ ReadFault = cc (r.1, r.2) in
-    absurd (c.in_err-option_head.ensures.judged (ap (λ y. Err y) e))
-
 pub returns-in-Last-clause-steps : goal.returns-in-Last-clause-steps
 returns-in-Last-clause-steps g c = λ xs h.
     let read = c.in_ok-n.ensures.bytes xs h in

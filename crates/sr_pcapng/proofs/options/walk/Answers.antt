@@ -27,7 +27,7 @@ loop-room-preserved g c = record {
       let head = option_of c.args.endian c.args.offset c.loop-room.room (take 4 w.rest) in
       let step = subst (λ o. Steps (Ok o) head c.loop-room.resolution (drop 4 w.rest) (g.S.Source.known c.step.new.source).left) c.in-Some.is (c.in_ok-size.ensures.steps w.rest w.told) in
       walks_value c.args.endian c.args.offset c.loop-room.room c.loop-room.resolution c.in-Some.now c.in-Some.size _ _ _ w (omega arith) step;
-  count = let i = c.loop-room.invariant.count in let s = c.in_ok-size.ensures.count in omega arith;
+  still = c.in_ok-size.ensures.faults.still (λ e. absurd (cc e)) ∙ c.loop-room.invariant.still;
 }
 
 pub returns-in-None-clause-walks : goal.returns-in-None-clause-walks

@@ -9,7 +9,7 @@ invariant-loop-room g l = record {
   scratch : 0 < length l.scratch;
   walked : (xs : List ℕ) → (g.S.Source.known l.fn.source).left ≡ Some xs
       → WalksOn l.endian l.offset l.room l.resolution (g.S.Source.known l.source).left (walk l.size l.endian l.offset l.size None xs);
-  count : (g.S.Source.known l.fn.source).faults ≤ (g.S.Source.known l.source).faults;
+  still : (g.S.Source.known l.source).faults ≡ (g.S.Source.known l.fn.source).faults;
 }
 
 abbrev pub decreases-loop-room : goal.decreases-loop-room

@@ -1,4 +1,4 @@
-use Rattle.std.proofs.Common.{◌-◌, ◌≤◌, length, drop, arith}
+use Rattle.std.proofs.Common.{◌-◌, ◌≤◌, length, drop, ◌∙◌, arith}
 use Rattle.sr_pcapng.proofs.Filling.{holds_more, fills_whole, fills_part}
 use Rattle.sr_pcapng.proofs.reading.fill.Goals as goal
 
@@ -11,7 +11,7 @@ loop-at-preserved g c =
           let held = c.loop-at.invariant.holds xs h in
           let took = c.in-Bytes.ensures.bytes (drop c.loop-at.at xs) held.rest in
           holds_more c.loop-at.at c.in-Bytes.n (c.args.size - c.loop-at.at) xs c.loop-at.into c.read.new.into _ _ within c.in-Bytes.ensures.within.1 held took.0 took.1 took.2;
-      count = omega arith;
+      still = c.in-Bytes.ensures.faults.still (λ e. absurd (cc e)) ∙ c.loop-at.invariant.still;
     }
 
 pub returns-in-End-clause-bytes : goal.returns-in-End-clause-bytes

@@ -6,7 +6,7 @@ abbrev pub invariant-loop-at : goal.invariant-loop-at
 invariant-loop-at g l = record {
   within : l.at ≤ l.size;
   holds : (xs : List ℕ) → (g.S.Source.known l.fn.source).left ≡ Some xs → Holds l.at xs l.into (g.S.Source.known l.source).left;
-  count : (g.S.Source.known l.fn.source).faults ≤ (g.S.Source.known l.source).faults;
+  still : (g.S.Source.known l.source).faults ≡ (g.S.Source.known l.fn.source).faults;
 }
 
 abbrev pub decreases-loop-at : goal.decreases-loop-at

@@ -8,7 +8,7 @@ loop-at-preserved g c = record {
   within = let took = c.in-Bytes.ensures.within in let same = c.read.auto.into in omega (arith, length-take-le c.min-room.result c.loop-at.scratch (omega arith));
   room = let same = c.read.auto.into in omega (arith, length-append c.read.new.into (drop c.min-room.result c.loop-at.scratch), length-take-le c.min-room.result c.loop-at.scratch (omega arith));
   rest = λ xs h. (c.in-Bytes.ensures.bytes (drop c.loop-at.at xs) (c.loop-at.invariant.rest xs h)).2 ∙ ap (λ (ys : List ℕ). Some ys) (drop-drop c.in-Bytes.n c.loop-at.at xs);
-  count = omega arith;
+  still = c.in-Bytes.ensures.faults.still (λ e. absurd (cc e)) ∙ c.loop-at.invariant.still;
 }
 
 pub returns-in-End-clause-bytes : goal.returns-in-End-clause-bytes

@@ -6,7 +6,7 @@ invariant-loop-at g l = record {
   within : l.at ≤ l.size;
   room : 0 < length l.scratch;
   rest : (xs : List ℕ) → (g.S.Source.known l.fn.source).left ≡ Some xs → (g.S.Source.known l.source).left ≡ Some (drop l.at xs);
-  count : (g.S.Source.known l.fn.source).faults ≤ (g.S.Source.known l.source).faults;
+  still : (g.S.Source.known l.source).faults ≡ (g.S.Source.known l.fn.source).faults;
 }
 
 abbrev pub decreases-loop-at : goal.decreases-loop-at

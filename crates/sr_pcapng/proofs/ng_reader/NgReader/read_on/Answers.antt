@@ -20,7 +20,7 @@ loop-head-preserved g c =
           let left = (g.S.Source.known c.step.new.source).left in
           let step = subst (λ o. Steps (Ok o) c.loop-head.self p.rest c.step.new.self left) c.in-Ok-None.field-0-is (c.in-Ok-None.ensures.steps p.rest p.told) in
           passes_after c.args.self.now c.loop-head.self c.step.new.self xs _ _ p step;
-      count = let i = c.loop-head.invariant.count in let s = c.in-Ok-None.ensures.count in omega arith;
+      still = c.in-Ok-None.ensures.faults.still (λ e. absurd (cc e)) ∙ c.loop-head.invariant.still;
     }
 
 pub returns-in-Err-clause-packet : goal.returns-in-Err-clause-packet

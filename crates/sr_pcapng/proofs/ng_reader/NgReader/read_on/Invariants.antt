@@ -6,7 +6,7 @@ abbrev pub invariant-loop-head : goal.invariant-loop-head
 invariant-loop-head g l = record {
   going : l.self.ended ≡ None;
   passed : (xs : List ℕ) → (g.S.Source.known l.fn.source).left ≡ Some xs → PassesOver l.fn.self xs l.self (g.S.Source.known l.source).left;
-  count : (g.S.Source.known l.fn.source).faults ≤ (g.S.Source.known l.source).faults;
+  still : (g.S.Source.known l.source).faults ≡ (g.S.Source.known l.fn.source).faults;
 }
 
 abbrev pub decreases-loop-head : goal.decreases-loop-head
