@@ -37,7 +37,7 @@ is_bad least size = not (size % 4 == 0) || nat_lt size least
 unfoldable pub front_sized : ℕ → ℕ → ℕ → ℕ → Result Front Stop
 front_sized interfaces offset type size =
     if type == 1 then (if is_bad 20 size then Err (Block offset)
-      else (if nat_lt interfaces 1024 then Ok (front.Interface size) else Err (TooMany offset)))
+    else (if nat_lt interfaces 1024 then Ok (front.Interface size) else Err (TooMany offset)))
     else (if type == 6 then (if is_bad 32 size then Err (Block offset) else Ok (front.Packet size))
     else (if is_bad 12 size then Err (Block offset) else Ok (front.Other size)))
 

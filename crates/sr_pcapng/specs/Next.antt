@@ -37,14 +37,14 @@ next_from (suc room) offset section bytes =
     else elim (block_at section offset bytes) [
       | Err why ↦ Err why
       | Ok block ↦ elim block.packet [
-          | Some packet ↦ Ok (record {
-              packet = packet;
-              offset = offset;
-              place = record { room = room; offset = offset + block.size; section = block.section };
-              rest = block.rest;
-            })
-          | None ↦ next_from room (offset + block.size) block.section block.rest
-        ]
+        | Some packet ↦ Ok (record {
+          packet = packet;
+          offset = offset;
+          place = record { room = room; offset = offset + block.size; section = block.section };
+          rest = block.rest;
+        })
+        | None ↦ next_from room (offset + block.size) block.section block.rest
+      ]
     ]
 
 -- a packet of a capture: when it was captured, in whole milliseconds, its link type, and its captured bytes

@@ -45,7 +45,7 @@ walk (suc most) endian offset room resolution bytes =
     else elim (option_of endian offset room (take 4 bytes)) [
       | Err why ↦ Err why
       | Ok head ↦ elim head [
-          | Last ↦ Ok (record { resolution = resolution; more = room - 4; rest = drop 4 bytes })
-          | Value size tells ↦ walk most endian offset (room - (4 + size)) (kept resolution tells (drop 4 bytes)) (drop size (drop 4 bytes))
-        ]
+        | Last ↦ Ok (record { resolution = resolution; more = room - 4; rest = drop 4 bytes })
+        | Value size tells ↦ walk most endian offset (room - (4 + size)) (kept resolution tells (drop 4 bytes)) (drop size (drop 4 bytes))
+      ]
     ]

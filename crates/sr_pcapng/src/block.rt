@@ -6,7 +6,6 @@ ghost use Rattle.sr_pcapng.specs.Front.{SectionView};
 ghost use Rattle.sr_pcapng.specs.Reading.{Gives};
 ghost use Rattle.sr_pcapng.specs.declared.stop.Stop.TheVariants.{ReadFault};
 
-use crate::stop::Stop;
 use crate::endian::Endian;
 use crate::front::Front;
 use crate::interface::Interface;
@@ -14,6 +13,7 @@ use crate::options::walk;
 use crate::packet_head::PacketHead;
 use crate::reading::{fill, skip};
 use crate::section::{Section, section_header};
+use crate::stop::Stop;
 use sr_io::Source;
 
 // The resolution of an interface that gives none: microseconds.

@@ -12,11 +12,9 @@ mod front;
 mod interface;
 mod ng_next;
 mod ng_reader;
-
 mod option_head;
 mod options;
 mod packet_head;
-
 mod reading;
 mod section;
 mod stop;
@@ -24,3 +22,5 @@ mod stop;
 pub use ng_next::NgNext;
 pub use ng_reader::NgReader;
 
+#[cfg(test)]
+mod tests;

@@ -43,7 +43,10 @@ impl Model for NgReader {
     ghost Value = { ReaderView };
 
     ghost view = { λ r. record {
-        place = record { room = r.room; offset = r.offset; section = r.section }; bytes = take r.size r.packet.items; ended = r.ended } };
+      place = record { room = r.room; offset = r.offset; section = r.section };
+      bytes = take r.size r.packet.items;
+      ended = r.ended;
+    } };
 
     ghost invariant = { λ r. (vec_len r.packet ≡ 262144) × (vec_len r.scratch ≡ 65536) × (r.size ≤ 262144) × (r.offset + r.room * 2 ^ 32 ≤ 2 ^ 56) };
 }

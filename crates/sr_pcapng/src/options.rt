@@ -5,11 +5,11 @@ ghost use Rattle.sr_pcapng.specs.Options.{option_of, option_sized, walk, kept, F
 ghost use Rattle.sr_pcapng.specs.Reading.{Keeps, Steps, Walks};
 ghost use Rattle.sr_pcapng.specs.declared.stop.Stop.TheVariants.{ReadFault};
 
-use crate::stop::Stop;
 use crate::endian::Endian;
 use crate::option_head::OptionHead;
 use crate::reading::{fill, skip};
 use crate::section::padded;
+use crate::stop::Stop;
 use sr_io::Source;
 
 // The code of an option that gives a resolution.
@@ -94,12 +94,7 @@ fn read_value<S: Source>(
 
 // What the four bytes at an option's front say, or all that there are.
 #[tactic(auto, unfolding(crate::specs::Options::option_of))]
-fn option_head(
-    endian: Endian,
-    offset: u64,
-    room: u64,
-    bytes: &[u8],
-) -> Result<OptionHead, Stop>
+fn option_head(endian: Endian, offset: u64, room: u64, bytes: &[u8]) -> Result<OptionHead, Stop>
     ensures option { result ≡ option_of endian offset room bytes.now }
     ensures judged { result ≢ Err ReadFault }
     ensures fits { IfOk result (λ h. FitsIn h room) }

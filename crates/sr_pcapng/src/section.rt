@@ -2,11 +2,11 @@ ghost use Rattle.std.specs.Prelude.{◌≡◌, ◌≢◌, ◌+◌, ◌<◌, ◌�
 ghost use Rattle.sr_pcapng.specs.Front.{endian_of, front_of, front_in, front_sized, header_of, header_in, packet_of, packet_sized, is_bad, padded, HasSize, HasRoom};
 ghost use Rattle.sr_pcapng.specs.declared.stop.Stop.TheVariants.{ReadFault};
 
-use crate::stop::Stop;
 use crate::endian::Endian;
 use crate::front::Front;
 use crate::interface::Interface;
 use crate::packet_head::PacketHead;
+use crate::stop::Stop;
 use std::alloc::{AllocError, Global};
 use std::marker::Model;
 
@@ -156,12 +156,7 @@ pub fn padded(bytes: u32) -> u64
 
 // What a block in a section of this byte order is.
 #[tactic(auto, unfolding(crate::specs::Front::front_in))]
-fn front_in(
-    endian: Endian,
-    interfaces: usize,
-    offset: u64,
-    bytes: &[u8],
-) -> Result<Front, Stop>
+fn front_in(endian: Endian, interfaces: usize, offset: u64, bytes: &[u8]) -> Result<Front, Stop>
     requires { 4 ≤ length bytes.now }
     ensures exact { result ≡ front_in endian interfaces offset bytes.now }
     ensures judged { result ≢ Err ReadFault }
@@ -220,12 +215,7 @@ pub fn section_header(offset: u64, size: &[u8], bytes: &[u8]) -> Result<(Endian,
 
 // The same of a section header in this byte order.
 #[tactic(auto, unfolding(crate::specs::Front::header_in))]
-fn header_in(
-    endian: Endian,
-    offset: u64,
-    size: &[u8],
-    bytes: &[u8],
-) -> Result<(Endian, u32), Stop>
+fn header_in(endian: Endian, offset: u64, size: &[u8], bytes: &[u8]) -> Result<(Endian, u32), Stop>
     requires size { 4 ≤ length size.now }
     requires magic { 4 ≤ length bytes.now }
     ensures exact { result ≡ header_in endian offset size.now bytes.now }
