@@ -1,19 +1,18 @@
 -- What the parts of a block that were read say of the whole block.
-use Rattle.std.proofs.Common.{◌≡◌, ◌⊎◌, inl, inr, ℕ, ◌-◌, ◌<◌, ◌≤◌, List, [], take, drop, length, Option, Some, None, Result, Ok, Err, refl, sym, ap, subst, ◌∙◌, arith}
+use Rattle.std.proofs.Common.{◌≡◌, ◌⊎◌, inl, inr, ℕ, ◌-◌, ◌<◌, ◌≤◌, List, [], take, drop, length, Option, Some, None, Result, Ok, Err, sym, ap, subst, ◌∙◌, arith}
 use Rattle.std.specs.Option.{unwrap_or}
 use Rattle.std.proofs.lemmas.Bool.{cond-true, cond-false, lt-ltb, le-ltb}
 use Rattle.std.proofs.lemmas.List.{take_all, length-drop}
 use Rattle.sr_pcapng.specs.declared.endian.Endian.{Endian}
 use Rattle.sr_pcapng.specs.declared.front.Front.{Front}
-use Rattle.sr_pcapng.specs.declared.interface.Interface.{Interface}
 use Rattle.sr_pcapng.specs.declared.stop.Stop.{Stop}
 use Rattle.sr_pcapng.specs.declared.stop.Stop.TheVariants.{ReadFault, Truncated}
 use Rattle.sr_pcapng.specs.declared.packet_head.PacketHead.{PacketHead}
-use Rattle.sr_pcapng.specs.Block.{Packet, Whole, last_fault, unless, closed, whole, section_with, section_block, with_interface, interface_with, interface_block, packet_with_head, packet_block, other_block, block_with, block_at}
+use Rattle.sr_pcapng.specs.Block.{last_fault, unless, closed, whole, section_with, section_block, with_interface, interface_with, interface_block, packet_with_head, packet_block, other_block, block_with, block_at}
 use Rattle.sr_pcapng.specs.Endian.{number}
 use Rattle.sr_pcapng.specs.Front.{SectionView, endian_of, front_of, header_of, packet_of}
 use Rattle.sr_pcapng.specs.Options.{Walked, walk}
-use Rattle.sr_pcapng.specs.Reading.{Gives, Follows}
+use Rattle.sr_pcapng.specs.Reading.{Gives}
 
 -- an error that was passed on
 pub gives_err : {A B : Type 0} (view : A → List ℕ → B) (why : Stop) (r : Result A Stop) (definition : Result B Stop) (left : Option (List ℕ)) → r ≡ Err why

@@ -1,11 +1,11 @@
 -- What comes next where a block was read.
 use Rattle.std.proofs.Common.{◌≡◌, ◌⊎◌, inl, inr, ℕ, zero, suc, ◌+◌, List, [], length, Option, Some, None, Result, Ok, Err, option_map, take, refl, sym, ap, subst, ◌∙◌, arith}
-use Rattle.std.proofs.lemmas.Bool.{cond-true, cond-false, ne_eqb}
+use Rattle.std.proofs.lemmas.Bool.{cond-false, ne_eqb}
 use Rattle.sr_pcapng.specs.declared.stop.Stop.{Stop}
 use Rattle.sr_pcapng.specs.declared.stop.Stop.TheVariants.{End, Truncated, ReadFault, TooLong, Block, Magic, Major, TooMany}
 use Rattle.sr_pcapng.specs.declared.ng_next.NgNext.{NgNext}
 use Rattle.sr_pcapng.specs.declared.packet_head.PacketHead.{PacketHead}
-use Rattle.sr_pcapng.specs.Block.{Packet, Whole, block_at}
+use Rattle.sr_pcapng.specs.Block.{Packet, block_at}
 use Rattle.sr_pcapng.specs.Front.{SectionView}
 use Rattle.sr_pcapng.specs.Next.{Arrival, at_end, next_from}
 use Rattle.sr_pcapng.specs.Reader.{ReaderView, Arrives, Answers, Ends, HasEnded, PassesOver, Steps, next_at}

@@ -1,6 +1,6 @@
 -- Walking over the options of an interface description.
 use Rattle.std.proofs.Common.{◌≡◌, ℕ, zero, suc, ◌+◌, ◌-◌, ◌<◌, ◌≤◌, Bool, true, false, List, take, drop, slice_get, is_some, Option, Some, None, Result, Ok, Err, refl, sym, ap, ◌∙◌, arith}
-use Rattle.std.proofs.lemmas.Bool.{cond-true, cond-false, ne_eqb}
+use Rattle.std.proofs.lemmas.Bool.{cond-false, ne_eqb}
 use Rattle.sr_pcapng.specs.declared.endian.Endian.{Endian}
 use Rattle.sr_pcapng.specs.declared.stop.Stop.{Stop}
 use Rattle.sr_pcapng.specs.declared.option_head.OptionHead.TheVariants.{Last, Value}

@@ -1,10 +1,10 @@
 -- What comes next in a capture, and its packets, read off the bytes that are left.
-use Rattle.std.specs.Prelude.{ℕ, zero, suc, ◌+◌, ◌==◌, if◌then◌else◌, List, [], ◌∷◌, length, Option, Some, None, Result, Ok, Err}
+use Rattle.std.specs.Prelude.{ℕ, zero, suc, ◌+◌, ◌==◌, if◌then◌else◌, List, [], ◌∷◌, length, Some, None, Result, Ok, Err}
 use Rattle.sr_pcapng.specs.declared.ng_next.NgNext.{NgNext}
 use Rattle.sr_pcapng.specs.declared.ng_next.NgNext.TheVariants as next
 use Rattle.sr_pcapng.specs.declared.stop.Stop.{Stop}
 use Rattle.sr_pcapng.specs.declared.stop.Stop.TheVariants.{End, Truncated, TooMany}
-use Rattle.sr_pcapng.specs.Block.{Packet, Whole, block_at}
+use Rattle.sr_pcapng.specs.Block.{Packet, block_at}
 use Rattle.sr_pcapng.specs.Front.{SectionView}
 use Rattle.sr_pcapng.specs.Stop.{said}
 

@@ -1,4 +1,4 @@
-use Rattle.std.proofs.Common.{take, drop, inr, sym}
+use Rattle.std.proofs.Common.{drop, inr, sym}
 use Rattle.sr_pcapng.proofs.Blocks.{closed_err, closed_ok}
 use Rattle.sr_pcapng.proofs.block.close.Goals as goal
 

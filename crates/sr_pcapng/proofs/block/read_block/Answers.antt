@@ -1,4 +1,4 @@
-use Rattle.std.proofs.Common.{◌≡◌, ℕ, List, Ok, Err, drop, inr, ap, sym, ◌∙◌}
+use Rattle.std.proofs.Common.{ℕ, List, Ok, Err, drop, inr, ap, sym, ◌∙◌}
 use Rattle.std.proofs.lemmas.Result.{err_from_is_err_and}
 use Rattle.sr_pcapng.specs.declared.front.Front.{Front}
 use Rattle.sr_pcapng.specs.Block.{section_block}

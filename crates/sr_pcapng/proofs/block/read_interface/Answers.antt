@@ -1,4 +1,4 @@
-use Rattle.std.proofs.Common.{◌≤◌, ◌<◌, Err, drop, length, inr, ap, sym, ◌∙◌, arith}
+use Rattle.std.proofs.Common.{◌≤◌, Err, drop, length, inr, ap, ◌∙◌, arith}
 use Rattle.std.proofs.lemmas.Result.{err_from_is_err_and}
 use Rattle.sr_pcapng.proofs.Blocks.{gives_err, err_then, front_whole, interface_cut, interface_err, interface_not_closed, interface_whole}
 use Rattle.sr_pcapng.proofs.block.read_interface.Goals as goal

@@ -1,4 +1,4 @@
-use Rattle.std.proofs.Common.{◌≡◌, ◌≤◌, ◌<◌, ℕ, List, Err, take, drop, length, inr, ap, sym, ◌∙◌, arith}
+use Rattle.std.proofs.Common.{◌≡◌, ◌≤◌, ℕ, Err, take, drop, length, inr, ap, sym, ◌∙◌, arith}
 use Rattle.std.proofs.lemmas.Result.{err_from_is_err_and}
 use Rattle.sr_pcapng.specs.Front.{packet_of}
 use Rattle.sr_pcapng.proofs.Blocks.{gives_err, err_then, packet_err, packet_cut, packet_not_closed, packet_whole}

@@ -1,8 +1,7 @@
-use Rattle.std.proofs.Common.{◌≡◌, ℕ, List, Option, take, drop, Ok, Err, inr, ap, sym, subst, ◌∙◌}
+use Rattle.std.proofs.Common.{take, drop, Ok, Err, inr, ap, sym, subst, ◌∙◌}
 use Rattle.std.proofs.lemmas.Result.{err_from_is_err_and}
 use Rattle.sr_pcapng.specs.Options.{option_of}
 use Rattle.sr_pcapng.specs.Reading.{Steps}
-use Rattle.sr_pcapng.specs.declared.stop.Stop.TheVariants.{ReadFault}
 use Rattle.sr_pcapng.specs.declared.option_head.OptionHead.{OptionHead}
 use Rattle.sr_pcapng.proofs.options.step.Goals as goal
 

@@ -1,8 +1,8 @@
-use Rattle.std.proofs.Common.{◌≡◌, ℕ, ◌-◌, ◌+◌, ◌<◌, List, Option, None, Some, Ok, Err, take, drop, length, inl, inr, ap, sym, subst, ◌∙◌, arith}
+use Rattle.std.proofs.Common.{ℕ, None, Ok, Err, take, drop, inl, inr, ap, sym, subst, ◌∙◌, arith}
 use Rattle.std.proofs.lemmas.Result.{err_from_is_err_and}
-use Rattle.sr_pcapng.specs.Options.{Walked, option_of, walk}
+use Rattle.sr_pcapng.specs.Options.{option_of, walk}
 use Rattle.sr_pcapng.specs.Reading.{Steps, Walks}
-use Rattle.sr_pcapng.proofs.Walking.{walks_nothing, walks_value, walks_last, walks_error, walks_all}
+use Rattle.sr_pcapng.proofs.Walking.{walks_nothing, walks_value, walks_last, walks_error}
 use Rattle.sr_pcapng.proofs.options.walk.Goals as goal
 
 pub returns-in_err-size-clause-walks : goal.returns-in_err-size-clause-walks

@@ -1,5 +1,5 @@
 use Rattle.std.proofs.Common.{◌-◌, ◌≤◌, length, drop, ◌∙◌, arith}
-use Rattle.sr_pcapng.proofs.Filling.{holds_more, fills_whole, fills_part}
+use Rattle.sr_pcapng.proofs.Filling.{holds_more, fills_part}
 use Rattle.sr_pcapng.proofs.reading.fill.Goals as goal
 
 pub loop-at-preserved : goal.loop-at-preserved

@@ -1,4 +1,4 @@
-use Rattle.std.proofs.Common.{◌-◌, ◌≤◌, ℕ, length, drop, ap, List, Some, ◌∙◌, arith}
+use Rattle.std.proofs.Common.{ℕ, drop, ap, List, Some, ◌∙◌, arith}
 use Rattle.std.proofs.lemmas.List.{drop-drop, length-append, length-take-le}
 use Rattle.sr_pcapng.proofs.Filling.{skips_part}
 use Rattle.sr_pcapng.proofs.reading.skip.Goals as goal

@@ -1,4 +1,4 @@
-use Rattle.std.proofs.Common.{◌≡◌, ℕ, ◌<◌, subst, sym, arith}
+use Rattle.std.proofs.Common.{◌<◌, subst, sym, arith}
 use Rattle.sr_pcapng.proofs.Time.{units_positive, time_none}
 use Rattle.sr_pcapng.proofs.interface.Interface.milliseconds.Goals as goal
 

@@ -1,4 +1,4 @@
-use Rattle.std.proofs.Common.{◌≡◌, ℕ, ◌≤◌, List, Option, Ok, refl, ap, sym, subst, ◌∙◌, arith}
+use Rattle.std.proofs.Common.{Ok, refl, ap, sym, subst, ◌∙◌}
 use Rattle.sr_pcapng.specs.Reader.{ReaderView, Steps, Keeps}
 use Rattle.sr_pcapng.proofs.Nexts.{arrives_after, passes_after, answers_said, ends_said}
 use Rattle.sr_pcapng.proofs.ng_reader.NgReader.read_on.Goals as goal

@@ -1,4 +1,4 @@
-use Rattle.std.proofs.Common.{◌≡◌, ℕ, ◌≤◌, List, Some, None}
+use Rattle.std.proofs.Common.{◌≡◌, ℕ, List, Some, None}
 use Rattle.sr_pcapng.specs.Reader.{PassesOver}
 use Rattle.sr_pcapng.proofs.ng_reader.NgReader.read_on.Given as goal
 
