@@ -1,0 +1,5 @@
+pub mod Blocks
+pub mod Filling
+pub mod Nexts
+pub mod Time
+pub mod Walking

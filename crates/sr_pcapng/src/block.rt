@@ -1,0 +1,194 @@
+ghost use Rattle.std.specs.Prelude.{◌≡◌, ◌≢◌, ℕ, ◌+◌, ◌<◌, ◌≤◌, List, length, take, drop, Some, None, Err, IfOk, IfSome, option_map};
+ghost use Rattle.std.specs.Option.{ForSome};
+ghost use Rattle.sr_io.specs.Faults.{Counts};
+ghost use Rattle.sr_pcapng.specs.Block.{block_at, last_fault, closed, section_block, interface_block, packet_block, other_block};
+ghost use Rattle.sr_pcapng.specs.Front.{SectionView};
+ghost use Rattle.sr_pcapng.specs.Reading.{Gives};
+ghost use Rattle.sr_pcapng.specs.declared.stop.Stop.TheVariants.{ReadFault};
+
+use crate::endian::Endian;
+use crate::front::Front;
+use crate::interface::Interface;
+use crate::options::walk;
+use crate::packet_head::PacketHead;
+use crate::reading::{fill, skip};
+use crate::section::{Section, section_header};
+use crate::stop::Stop;
+use sr_io::Source;
+
+// The resolution of an interface that gives none: microseconds.
+const MICROSECONDS: u8 = 6;
+
+/// Reads a block, whose first eight bytes, or all that there are, have been read: the packet that it carries, if it carries one, and how many
+/// bytes it has. The captured bytes are put into the buffer `packet`.
+pub fn read_block<S: Source>(
+    source: &mut S,
+    scratch: &mut [u8],
+    section: &mut Section,
+    packet: &mut [u8],
+    offset: u64,
+    first: &[u8],
+) -> Result<(Option<PacketHead>, u32), Stop>
+    requires scratch { 0 < length scratch.old }
+    requires packet { length packet.old ≡ 262144 }
+    requires first { length first.now ≤ 8 }
+    ensures reads { (xs : List ℕ) → (S.known source.old).left ≡ Some (drop 8 xs) → first.now ≡ take 8 xs → Gives (λ r rest. record { packet = option_map (λ head. record { head = head; bytes = take head.captured packet.new }) r.0; section = section.new; size = r.1; rest = rest }) result (block_at section.old offset xs) (S.known source.new).left }
+    ensures few { IfOk result (λ r. IfSome r.0 (λ head. head.captured ≤ 262144)) }
+    ensures faults { Counts (result ≡ Err ReadFault) (S.known source.old).faults (S.known source.new).faults }
+{
+    match section.front(offset, first)? {
+        Front::Section => {
+            let size = read_section(source, scratch, section, offset, &first[4..])?;
+            Ok((None, size))
+        }
+        Front::Interface { size } => {
+            read_interface(source, scratch, section, offset, size)?;
+            Ok((None, size))
+        }
+        Front::Packet { size } => {
+            let head = read_packet(source, scratch, section, packet, offset, size)?;
+            Ok((Some(head), size))
+        }
+        Front::Other { size } => {
+            read_other(source, scratch, section, offset, size)?;
+            Ok((None, size))
+        }
+    }
+}
+
+// Reads a section header from the byte after its length on, and begins the section: how many bytes the block has.
+fn read_section<S: Source>(
+    source: &mut S,
+    scratch: &mut [u8],
+    section: &mut Section,
+    offset: u64,
+    size: &[u8],
+) -> Result<u32, Stop>
+    requires scratch { 0 < length scratch.old }
+    requires size { 4 ≤ length size.now }
+    ensures reads { ForSome (S.known source.old).left (λ xs. Gives (λ n rest. record { packet = None; section = section.new; size = n; rest = rest }) result (section_block offset size.now xs) (S.known source.new).left) }
+    ensures faults { Counts (result ≡ Err ReadFault) (S.known source.old).faults (S.known source.new).faults }
+{
+    let mut fields = [0; 16];
+    let n = fill(source, &mut fields, 16)?;
+    let (endian, size) = section_header(offset, size, &fields[..n])?;
+    close(source, scratch, endian, offset, size, size as u64 - 28)?;
+    section.begin(endian);
+    Ok(size)
+}
+
+// Reads an interface description of this length from the byte after it on, and adds the interface to its section.
+fn read_interface<S: Source>(
+    source: &mut S,
+    scratch: &mut [u8],
+    section: &mut Section,
+    offset: u64,
+    size: u32,
+) -> Result<(), Stop>
+    requires scratch { 0 < length scratch.old }
+    requires size { 20 ≤ size }
+    requires room { length section.old.interfaces < 1024 }
+    ensures reads { ForSome (S.known source.old).left (λ xs. Gives (λ _ rest. record { packet = None; section = section.new; size = size; rest = rest }) result (interface_block section.old offset size xs) (S.known source.new).left) }
+    ensures faults { Counts (result ≡ Err ReadFault) (S.known source.old).faults (S.known source.new).faults }
+{
+    let endian = section.endian();
+    let mut fields = [0; 8];
+    if fill(source, &mut fields, 8)? < 8 {
+        return Err(Stop::Truncated { offset });
+    }
+    let link = endian.read_u16(&fields);
+    let (resolution, more) = walk(source, scratch, endian, offset, size as u64 - 20)?;
+    close(source, scratch, endian, offset, size, more)?;
+    let resolution = resolution.unwrap_or(MICROSECONDS);
+    section.add(Interface { link, resolution });
+    Ok(())
+}
+
+// Reads an enhanced packet block of this length from the byte after it on. The captured bytes are put into the buffer `packet`.
+fn read_packet<S: Source>(
+    source: &mut S,
+    scratch: &mut [u8],
+    section: &Section,
+    packet: &mut [u8],
+    offset: u64,
+    size: u32,
+) -> Result<PacketHead, Stop>
+    requires scratch { 0 < length scratch.old }
+    requires packet { length packet.old ≡ 262144 }
+    requires size { 32 ≤ size }
+    ensures reads { ForSome (S.known source.old).left (λ xs. Gives (λ head rest. record { packet = Some (record { head = head; bytes = take head.captured packet.new }); section = section.now; size = size; rest = rest }) result (packet_block section.now offset size xs) (S.known source.new).left) }
+    ensures few { IfOk result (λ head. head.captured ≤ 262144) }
+    ensures faults { Counts (result ≡ Err ReadFault) (S.known source.old).faults (S.known source.new).faults }
+{
+    let endian = section.endian();
+    let mut fields = [0; 20];
+    let n = fill(source, &mut fields, 20)?;
+    let head = section.packet(endian, offset, size, &fields[..n])?;
+    let captured = head.captured as usize;
+    if fill(source, packet, captured)? < captured {
+        return Err(Stop::Truncated { offset });
+    }
+    let more = size as u64 - 32 - head.captured as u64;
+    close(source, scratch, endian, offset, size, more)?;
+    Ok(head)
+}
+
+// Passes over a block of this length from the byte after it on.
+fn read_other<S: Source>(
+    source: &mut S,
+    scratch: &mut [u8],
+    section: &Section,
+    offset: u64,
+    size: u32,
+) -> Result<(), Stop>
+    requires scratch { 0 < length scratch.old }
+    requires size { 12 ≤ size }
+    ensures reads { ForSome (S.known source.old).left (λ xs. Gives (λ _ rest. record { packet = None; section = section.now; size = size; rest = rest }) result (other_block section.now offset size xs) (S.known source.new).left) }
+    ensures faults { Counts (result ≡ Err ReadFault) (S.known source.old).faults (S.known source.new).faults }
+{
+    close(
+        source,
+        scratch,
+        section.endian(),
+        offset,
+        size,
+        size as u64 - 12,
+    )
+}
+
+// Passes over so many bytes, and reads the last length of a block.
+fn close<S: Source>(
+    source: &mut S,
+    scratch: &mut [u8],
+    endian: Endian,
+    offset: u64,
+    size: u32,
+    more: u64,
+) -> Result<(), Stop>
+    requires { 0 < length scratch.old }
+    ensures closes { ForSome (S.known source.old).left (λ xs. Gives (λ _ rest. rest) result (closed endian offset size more xs) (S.known source.new).left) }
+    ensures faults { Counts (result ≡ Err ReadFault) (S.known source.old).faults (S.known source.new).faults }
+{
+    skip(source, scratch, more)?;
+    let mut last = [0; 4];
+    let n = fill(source, &mut last, 4)?;
+    match last_fault(endian, offset, size, &last[..n]) {
+        Some(why) => Err(why),
+        None => Ok(()),
+    }
+}
+
+// What is wrong with the last length of a block, if anything is.
+#[tactic(auto, unfolding(crate::specs::Block::last_fault))]
+fn last_fault(endian: Endian, offset: u64, size: u32, bytes: &[u8]) -> Option<Stop>
+    ensures exact { result ≡ last_fault endian offset size bytes.now }
+    ensures judged { result ≢ Some ReadFault }
+{
+    if bytes.len() < 4 {
+        return Some(Stop::Truncated { offset });
+    }
+    if endian.read_u32(bytes) != size {
+        return Some(Stop::Block { offset });
+    }
+    None
+}
