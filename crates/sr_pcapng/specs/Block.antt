@@ -1,5 +1,5 @@
 -- A whole block, read off the bytes that it begins.
-use Rattle.std.specs.Prelude.{ℕ, ◌-◌, ◌==◌, nat_lt, if◌then◌else◌, List, [], ◌∷◌, ◌++◌, length, take, drop, Option, Some, None, Result, Ok, Err}
+use Rattle.std.specs.Prelude.{ℕ, ◌-◌, ◌==◌, nat_lt, if◌then◌else◌, List, [], ◌∷◌, ◌++◌, length, take, drop, option_map, Option, Some, None, Result, Ok, Err}
 use Rattle.std.specs.Option.{unwrap_or}
 use Rattle.sr_pcapng.specs.declared.endian.Endian.{Endian}
 use Rattle.sr_pcapng.specs.declared.front.Front.{Front}
@@ -23,6 +23,19 @@ pub record Whole : Type 0 where
   pub section : SectionView
   pub size : ℕ
   pub rest : List ℕ
+
+-- a block that carries no packet
+abbrev pub no_packet : SectionView → ℕ → List ℕ → Whole
+no_packet section size rest = record { packet = None; section = section; size = size; rest = rest }
+
+-- a block that may carry one, whose captured bytes are at the front of a buffer
+abbrev pub maybe_packet : SectionView → List ℕ → Option PacketHead → ℕ → List ℕ → Whole
+maybe_packet section buffer head size rest = record {
+  packet = option_map (λ h. record { head = h; bytes = take h.captured buffer }) head;
+  section = section;
+  size = size;
+  rest = rest;
+}
 
 -- ---- the end of a block
 

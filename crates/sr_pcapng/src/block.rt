@@ -1,7 +1,7 @@
 ghost use Rattle.std.specs.Prelude.{◌≡◌, ◌≢◌, ℕ, ◌+◌, ◌<◌, ◌≤◌, List, length, take, drop, Some, None, Err, IfOk, IfSome, option_map};
 ghost use Rattle.std.specs.Option.{ForSome};
 ghost use Rattle.sr_io.specs.Faults.{Counts};
-ghost use Rattle.sr_pcapng.specs.Block.{block_at, last_fault, closed, section_block, interface_block, packet_block, other_block};
+ghost use Rattle.sr_pcapng.specs.Block.{no_packet, maybe_packet, block_at, last_fault, closed, section_block, interface_block, packet_block, other_block};
 ghost use Rattle.sr_pcapng.specs.Front.{SectionView};
 ghost use Rattle.sr_pcapng.specs.Reading.{Gives};
 ghost use Rattle.sr_pcapng.specs.declared.stop.Stop.TheVariants.{ReadFault};
@@ -32,7 +32,9 @@ pub fn read_block<S: Source>(
     requires scratch { 0 < length scratch.old }
     requires packet { length packet.old ≡ 262144 }
     requires first { length first.now ≤ 8 }
-    ensures reads { (xs : List ℕ) → (S.known source.old).left ≡ Some (drop 8 xs) → first.now ≡ take 8 xs → Gives (λ r rest. record { packet = option_map (λ head. record { head = head; bytes = take head.captured packet.new }) r.0; section = section.new; size = r.1; rest = rest }) result (block_at section.old offset xs) (S.known source.new).left }
+    ensures reads { (xs : List ℕ) → (S.known source.old).left ≡ Some (drop 8 xs) → first.now ≡ take 8 xs
+        → Gives (λ r. maybe_packet section.new packet.new r.0 r.1) result (block_at section.old offset xs)
+        (S.known source.new).left }
     ensures few { IfOk result (λ r. IfSome r.0 (λ head. head.captured ≤ 262144)) }
     ensures faults { Counts (result ≡ Err ReadFault) (S.known source.old).faults (S.known source.new).faults }
 {
@@ -66,7 +68,8 @@ fn read_section<S: Source>(
 ) -> Result<u32, Stop>
     requires scratch { 0 < length scratch.old }
     requires size { 4 ≤ length size.now }
-    ensures reads { ForSome (S.known source.old).left (λ xs. Gives (λ n rest. record { packet = None; section = section.new; size = n; rest = rest }) result (section_block offset size.now xs) (S.known source.new).left) }
+    ensures reads { ForSome (S.known source.old).left (λ xs.
+        Gives (no_packet section.new) result (section_block offset size.now xs) (S.known source.new).left) }
     ensures faults { Counts (result ≡ Err ReadFault) (S.known source.old).faults (S.known source.new).faults }
 {
     let mut fields = [0; 16];
@@ -88,7 +91,9 @@ fn read_interface<S: Source>(
     requires scratch { 0 < length scratch.old }
     requires size { 20 ≤ size }
     requires room { length section.old.interfaces < 1024 }
-    ensures reads { ForSome (S.known source.old).left (λ xs. Gives (λ _ rest. record { packet = None; section = section.new; size = size; rest = rest }) result (interface_block section.old offset size xs) (S.known source.new).left) }
+    ensures reads { ForSome (S.known source.old).left (λ xs.
+        Gives (λ _. no_packet section.new size) result (interface_block section.old offset size xs)
+        (S.known source.new).left) }
     ensures faults { Counts (result ≡ Err ReadFault) (S.known source.old).faults (S.known source.new).faults }
 {
     let endian = section.endian();
@@ -116,7 +121,9 @@ fn read_packet<S: Source>(
     requires scratch { 0 < length scratch.old }
     requires packet { length packet.old ≡ 262144 }
     requires size { 32 ≤ size }
-    ensures reads { ForSome (S.known source.old).left (λ xs. Gives (λ head rest. record { packet = Some (record { head = head; bytes = take head.captured packet.new }); section = section.now; size = size; rest = rest }) result (packet_block section.now offset size xs) (S.known source.new).left) }
+    ensures reads { ForSome (S.known source.old).left (λ xs.
+        Gives (λ h. maybe_packet section.now packet.new (Some h) size) result (packet_block section.now offset size xs)
+        (S.known source.new).left) }
     ensures few { IfOk result (λ head. head.captured ≤ 262144) }
     ensures faults { Counts (result ≡ Err ReadFault) (S.known source.old).faults (S.known source.new).faults }
 {
@@ -143,7 +150,9 @@ fn read_other<S: Source>(
 ) -> Result<(), Stop>
     requires scratch { 0 < length scratch.old }
     requires size { 12 ≤ size }
-    ensures reads { ForSome (S.known source.old).left (λ xs. Gives (λ _ rest. record { packet = None; section = section.now; size = size; rest = rest }) result (other_block section.now offset size xs) (S.known source.new).left) }
+    ensures reads { ForSome (S.known source.old).left (λ xs.
+        Gives (λ _. no_packet section.now size) result (other_block section.now offset size xs)
+        (S.known source.new).left) }
     ensures faults { Counts (result ≡ Err ReadFault) (S.known source.old).faults (S.known source.new).faults }
 {
     close(
@@ -166,7 +175,8 @@ fn close<S: Source>(
     more: u64,
 ) -> Result<(), Stop>
     requires { 0 < length scratch.old }
-    ensures closes { ForSome (S.known source.old).left (λ xs. Gives (λ _ rest. rest) result (closed endian offset size more xs) (S.known source.new).left) }
+    ensures closes { ForSome (S.known source.old).left (λ xs.
+        Gives (λ _ rest. rest) result (closed endian offset size more xs) (S.known source.new).left) }
     ensures faults { Counts (result ≡ Err ReadFault) (S.known source.old).faults (S.known source.new).faults }
 {
     skip(source, scratch, more)?;

@@ -48,7 +48,9 @@ impl Model for NgReader {
       ended = r.ended;
     } };
 
-    ghost invariant = { λ r. (vec_len r.packet ≡ 262144) × (vec_len r.scratch ≡ 65536) × (r.size ≤ 262144) × (r.offset + r.room * 2 ^ 32 ≤ 2 ^ 56) };
+    ghost invariant = { λ r.
+        (vec_len r.packet ≡ 262144) × (vec_len r.scratch ≡ 65536) × (r.size ≤ 262144)
+        × (r.offset + r.room * 2 ^ 32 ≤ 2 ^ 56) };
 }
 
 impl NgReader {
@@ -76,10 +78,13 @@ impl NgReader {
 
     /// Reads on to the next packet. Once it has answered anything else it reads no more, and answers the same.
     pub fn next<S: Source>(&mut self, source: &mut S) -> NgNext
-        ensures packet { self.old.ended ≡ None → ForSome (S.known source.old).left (λ xs. Answers result (next_at self.old.place xs) self.new (S.known source.new).left) }
+        ensures packet { self.old.ended ≡ None → ForSome (S.known source.old).left (λ xs.
+            Answers result (next_at self.old.place xs) self.new (S.known source.new).left) }
         ensures ends { self.old.ended ≡ None → Ends result self.new }
-        ensures again { ForSome self.old.ended (λ why. (result ≡ why) × (self.new ≡ self.old) × (source.new ≡ source.old)) }
-        ensures faults { self.old.ended ≡ None → Counts (result ≡ ReadFault) (S.known source.old).faults (S.known source.new).faults }
+        ensures again { ForSome self.old.ended (λ why.
+            (result ≡ why) × (self.new ≡ self.old) × (source.new ≡ source.old)) }
+        ensures faults { self.old.ended ≡ None
+            → Counts (result ≡ ReadFault) (S.known source.old).faults (S.known source.new).faults }
     {
         match self.ended {
             Some(why) => why,
@@ -90,7 +95,8 @@ impl NgReader {
     // Reads on to the next packet, of a reader that hasn't ended.
     fn read_on<S: Source>(&mut self, source: &mut S) -> NgNext
         requires { self.old.ended ≡ None }
-        ensures packet { ForSome (S.known source.old).left (λ xs. Answers result (next_at self.old.place xs) self.new (S.known source.new).left) }
+        ensures packet { ForSome (S.known source.old).left (λ xs.
+            Answers result (next_at self.old.place xs) self.new (S.known source.new).left) }
         ensures ends { Ends result self.new }
         ensures faults { Counts (result ≡ ReadFault) (S.known source.old).faults (S.known source.new).faults }
     {
@@ -116,7 +122,8 @@ impl NgReader {
 
     // Reads a block, if one follows and may follow: the packet that it carries.
     fn step<S: Source>(&mut self, source: &mut S) -> Result<Option<PacketHead>, Stop>
-        ensures steps { ForSome (S.known source.old).left (λ xs. Steps result self.old xs self.new (S.known source.new).left) }
+        ensures steps { ForSome (S.known source.old).left (λ xs.
+            Steps result self.old xs self.new (S.known source.new).left) }
         ensures bytes { Keeps result self.old self.new }
         ensures faults { Counts (result ≡ Err stop.ReadFault) (S.known source.old).faults (S.known source.new).faults }
     {

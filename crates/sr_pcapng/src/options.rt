@@ -25,7 +25,8 @@ pub fn walk<S: Source>(
     size: u64,
 ) -> Result<(Option<u8>, u64), Stop>
     requires { 0 < length scratch.old }
-    ensures walks { ForSome (S.known source.old).left (λ xs. Walks result (walk size endian offset size None xs) (S.known source.new).left) }
+    ensures walks { ForSome (S.known source.old).left (λ xs.
+        Walks result (walk size endian offset size None xs) (S.known source.new).left) }
     ensures faults { Counts (result ≡ Err ReadFault) (S.known source.old).faults (S.known source.new).faults }
     ensures more { IfOk result (λ r. r.1 ≤ size) }
 {
@@ -53,7 +54,8 @@ fn step<S: Source>(
     resolution: Option<u8>,
 ) -> Result<Option<(u64, Option<u8>)>, Stop>
     requires { 0 < length scratch.old }
-    ensures steps { ForSome (S.known source.old).left (λ xs. Steps result (option_of endian offset room (take 4 xs)) resolution (drop 4 xs) (S.known source.new).left) }
+    ensures steps { ForSome (S.known source.old).left (λ xs.
+        Steps result (option_of endian offset room (take 4 xs)) resolution (drop 4 xs) (S.known source.new).left) }
     ensures within { IfOk result (λ r. IfSome r (λ s. 4 + s.0 ≤ room)) }
     ensures faults { Counts (result ≡ Err ReadFault) (S.known source.old).faults (S.known source.new).faults }
 {
@@ -78,7 +80,8 @@ fn read_value<S: Source>(
 ) -> Result<Option<u8>, Stop>
     requires room { 0 < length scratch.old }
     requires size { tells ≡ true → 4 ≤ size }
-    ensures keeps { ForSome (S.known source.old).left (λ xs. Keeps result (kept resolution tells xs) (drop size xs) (S.known source.new).left) }
+    ensures keeps { ForSome (S.known source.old).left (λ xs.
+        Keeps result (kept resolution tells xs) (drop size xs) (S.known source.new).left) }
     ensures error { IfErr result (λ why. why ≡ ReadFault) }
     ensures faults { Counts (IsErr result) (S.known source.old).faults (S.known source.new).faults }
 {

@@ -10,7 +10,8 @@ use sr_io::{Got, Source};
 /// Reads so many bytes to the front of a buffer, or all that are left: how many there are.
 pub fn fill<S: Source>(source: &mut S, into: &mut [u8], size: usize) -> Result<usize, Stop>
     requires { size ≤ length into.old }
-    ensures bytes { ForSome (S.known source.old).left (λ xs. Fills result size xs into.new (S.known source.new).left) }
+    ensures bytes { ForSome (S.known source.old).left (λ xs.
+        Fills result size xs into.new (S.known source.new).left) }
     ensures within { IfOk result (λ n. n ≤ size) }
     ensures error { IfErr result (λ why. why ≡ ReadFault) }
     ensures faults { Counts (IsErr result) (S.known source.old).faults (S.known source.new).faults }
@@ -29,7 +30,8 @@ pub fn fill<S: Source>(source: &mut S, into: &mut [u8], size: usize) -> Result<u
 /// Passes over so many bytes, or all that are left.
 pub fn skip<S: Source>(source: &mut S, scratch: &mut [u8], size: u64) -> Result<(), Stop>
     requires { 0 < length scratch.old }
-    ensures bytes { ForSome (S.known source.old).left (λ xs. OnOk result ((S.known source.new).left ≡ Some (drop size xs))) }
+    ensures bytes { ForSome (S.known source.old).left (λ xs.
+        OnOk result ((S.known source.new).left ≡ Some (drop size xs))) }
     ensures error { IfErr result (λ why. why ≡ ReadFault) }
     ensures faults { Counts (IsErr result) (S.known source.old).faults (S.known source.new).faults }
 {

@@ -129,8 +129,17 @@ fn cut_anywhere(rt: HostRuntime) -> Result<(), Fail> {
     Ok(())
 }
 
+// A section header and then a packet, with no interface between them.
+fn no_interface() -> [u8; 64] {
+    let mut bytes = [0; 64];
+    bytes[..28].copy_from_slice(&LITTLE[..28]);
+    bytes[28..].copy_from_slice(&LITTLE[48..]);
+    bytes
+}
+
 #[test]
 fn sections(rt: HostRuntime) -> Result<(), Fail> {
+    let forgets = no_interface();
     let rows = [
         (
             LITTLE.as_slice(),
@@ -145,6 +154,15 @@ fn sections(rt: HostRuntime) -> Result<(), Fail> {
         ),
         (&LITTLE[..48], &BIG[..28], [NgNext::End; 3]),
         (&BIG, &LITTLE[..28], [big(68), NgNext::End, NgNext::End]),
+        (
+            &LITTLE,
+            &forgets,
+            [
+                little(48),
+                NgNext::Block { offset: 112 },
+                NgNext::Block { offset: 112 },
+            ],
+        ),
     ];
     for (first, second, expected) in rows {
         for piece in [1, 100] {
