@@ -12,9 +12,11 @@
 
 mod course;
 mod pipe_machine;
+mod plain_words;
 mod reads;
 mod stepping;
 mod track;
 
 pub use pipe_machine::PipeMachine;
+pub use plain_words::PlainWords;
 pub use track::{Course, Track};
