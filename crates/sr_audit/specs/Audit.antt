@@ -7,8 +7,11 @@ use Rattle.sr_law.specs.Setup.{SetupView}
 use Rattle.sr_audit.specs.declared.audit.Audit.{Audit}
 use Rattle.sr_audit.specs.Connections.{TellsConnections}
 use Rattle.sr_audit.specs.Downs.{TellsDowns}
+use Rattle.sr_audit.specs.Greatest.{TellsGreatest, TellsRefused}
 use Rattle.sr_audit.specs.LastGivings.{TellsGivings}
+use Rattle.sr_audit.specs.LastSweep.{TellsSweep}
 use Rattle.sr_audit.specs.LastUpdate.{TellsUpdate}
+use Rattle.sr_audit.specs.LiveRows.{TellsRows}
 use Rattle.sr_audit.specs.Places.{TellsPlaces}
 use Rattle.sr_audit.specs.Switches.{TellsSwitches}
 use Rattle.sr_audit.specs.Versions.{TellsVersions}
@@ -27,3 +30,7 @@ pub record Tells (setup : SetupView) (audit : Audit) (before : List Line) : Type
   pub connections : TellsConnections audit.connections before
   pub downs : TellsDowns audit.downs before
   pub places : TellsPlaces audit.places before
+  pub given : TellsGreatest audit.given before
+  pub refused : TellsRefused audit.refused before
+  pub rows : TellsRows audit.rows before
+  pub sweep : TellsSweep audit.sweep before

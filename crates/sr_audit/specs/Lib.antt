@@ -2,11 +2,14 @@ pub mod Answers
 pub mod Audit
 pub mod Connections
 pub mod Downs
+pub mod Greatest
 pub mod HeldCounts
 pub mod Index
 pub mod LastGivings
+pub mod LastSweep
 pub mod LastUpdate
 pub mod Lately
+pub mod LiveRows
 pub mod Places
 pub mod Switches
 pub mod Versions

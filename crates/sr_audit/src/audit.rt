@@ -5,8 +5,12 @@ ghost use Rattle.sr_audit.specs.Audit.{Tells};
 
 use crate::connections::Connections;
 use crate::downs::Downs;
+use crate::greatest_given::GreatestGiven;
+use crate::greatest_refused::GreatestRefused;
 use crate::last_givings::LastGivings;
+use crate::last_sweep::LastSweep;
 use crate::last_update::LastUpdate;
+use crate::live_rows::LiveRows;
 use crate::places::Places;
 use crate::switches::Switches;
 use crate::versions::Versions;
@@ -23,6 +27,10 @@ pub(crate) struct Audit {
     pub(crate) connections: Connections,
     pub(crate) downs: Downs,
     pub(crate) places: Places,
+    pub(crate) given: GreatestGiven,
+    pub(crate) refused: GreatestRefused,
+    pub(crate) rows: LiveRows,
+    pub(crate) sweep: LastSweep,
 }
 
 impl Audit {
@@ -38,6 +46,10 @@ impl Audit {
             connections: Connections::new(alloc),
             downs: Downs::new(alloc),
             places: Places::new(alloc),
+            given: GreatestGiven::new(alloc),
+            refused: GreatestRefused::new(),
+            rows: LiveRows::new(alloc),
+            sweep: LastSweep::new(),
         })
     }
 
@@ -49,10 +61,14 @@ impl Audit {
     {
         self.update.absorb(number, line);
         self.versions.absorb(line);
+        self.refused.absorb(line);
+        self.sweep.absorb(line);
         self.givings.absorb(line)?;
         self.switches.absorb(line)?;
         self.connections.absorb(line)?;
         self.downs.absorb(line)?;
+        self.given.absorb(line)?;
+        self.rows.absorb(line)?;
         self.places.absorb(line)
     }
 }

@@ -1,10 +1,10 @@
 ghost use Rattle.std.specs.Prelude.{◌≡◌, ◌≤◌, List, reverse, length};
 ghost use Rattle.sr_law.specs.Cause.{meets_cause};
-ghost use Rattle.sr_law.specs.Groups.{keeps_groups};
+ghost use Rattle.sr_law.specs.Groups.{keeps_groups, names_next_pool};
 ghost use Rattle.sr_law.specs.Lawful.{broken};
 ghost use Rattle.sr_law.specs.Newer.{is_new_pool, meets_newer};
-ghost use Rattle.sr_law.specs.Order.{meets_order};
-ghost use Rattle.sr_law.specs.Retire.{endings_of};
+ghost use Rattle.sr_law.specs.Order.{meets_order, refuses_next};
+ghost use Rattle.sr_law.specs.Retire.{endings_of, meets_retire};
 ghost use Rattle.sr_law.specs.Same.{meets_same};
 ghost use Rattle.sr_law.specs.Server.{meets_server};
 ghost use Rattle.sr_law.specs.Shaped.{IsShaped};
@@ -16,9 +16,33 @@ use crate::audit::Audit;
 use crate::lately::rises;
 use sr_law::{
     Clause, Line, Opening, Setup, Verdict, goes_on, has_pool, in_range, is_known_down,
-    is_opening_give, meets_cause, meets_number, meets_retire, names_next_pool, opened_by,
-    refuses_next,
+    is_opening_give, meets_cause, meets_number, meets_retire, opened_by,
 };
+
+// A pool that is given exists, and comes after those that its virtual address was given; the one that it switches to is the last given.
+fn names_next_pool(audit: &Audit, setup: &Setup, before: &[Line], line: &Line) -> bool
+    requires { Tells setup.now audit.now (reverse before.now) }
+    ensures { result ≡ names_next_pool setup.now.pools (reverse before.now) line.now }
+{
+    match *line {
+        Line::Given { vip, pool, .. } => {
+            setup.pools.of(vip, pool).is_some() && !audit.given.has_past(vip, pool)
+        }
+        Line::Switched { vip, pool, .. } => has_pool(audit.givings.last(vip), pool),
+        _ => true,
+    }
+}
+
+// Changes are refused in the script's order.
+fn refuses_next(audit: &Audit, setup: &Setup, before: &[Line], line: &Line) -> bool
+    requires { Tells setup.now audit.now (reverse before.now) }
+    ensures { result ≡ refuses_next (reverse before.now) line.now }
+{
+    match *line {
+        Line::Refused { change, .. } => !audit.refused.has_past(change),
+        _ => true,
+    }
+}
 
 // The first lines give every virtual address its first pool, and after them each update goes on as it must.
 #[tactic(auto, unfolding(sr_law::specs::Groups::keeps_groups))]
@@ -31,7 +55,7 @@ fn keeps_groups(audit: &Audit, setup: &Setup, before: &[Line], line: &Line) -> b
     } else {
         goes_on(audit.update.last(), line)
     };
-    goes && names_next_pool(&setup.pools, before, line)
+    goes && names_next_pool(audit, setup, before, line)
 }
 
 // A line stands in order.
@@ -46,7 +70,7 @@ fn meets_order(audit: &Audit, setup: &Setup, before: &[Line], line: &Line) -> bo
         && rises(before, line)
         && in_range(setup, line)
         && audit.places.keep(line)
-        && refuses_next(before, line)
+        && refuses_next(audit, setup, before, line)
 }
 
 // The line names the right server, if any.
@@ -148,7 +172,35 @@ fn has_cause(audit: &Audit, setup: &Setup, before: &[Line], line: &Line) -> bool
             verdict: Verdict::To { server, .. },
             ..
         } => !audit.downs.has(server),
+        Line::Packet {
+            verdict: Verdict::Down { server, .. },
+            ..
+        } => audit.downs.has(server),
+        Line::Answer {
+            verdict: Verdict::Down { server, .. },
+            ..
+        } => audit.downs.has(server),
+        Line::Answer {
+            key,
+            verdict: Verdict::NoPlace,
+            ..
+        } => audit.rows.are_full(&setup.shape, key),
         _ => meets_cause(setup, before, line),
+    }
+}
+
+// A sweep is the next one, and a connection that is retired was open, and quiet.
+#[tactic(auto, unfolding(sr_law::specs::Retire::meets_retire))]
+fn may_retire(audit: &Audit, setup: &Setup, all: &[Line], before: &[Line], line: &Line) -> bool
+    requires { Tells setup.now audit.now (reverse before.now) }
+    ensures { result ≡ meets_retire setup.now (endings_of (reverse all.now)) (reverse before.now) line.now }
+{
+    match *line {
+        Line::Swept { number, at_ms, .. } => {
+            audit.sweep.is_next(setup.shape.idle_ms, number, at_ms)
+        }
+        Line::Retired { .. } => meets_retire(setup, all, before, line),
+        _ => true,
     }
 }
 
@@ -185,7 +237,7 @@ pub(crate) fn broken(
     if !has_cause(audit, setup, before, line) {
         return Some(Clause::Cause);
     }
-    if !meets_retire(setup, all, before, line) {
+    if !may_retire(audit, setup, all, before, line) {
         return Some(Clause::Retire);
     }
     None

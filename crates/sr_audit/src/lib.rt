@@ -11,10 +11,14 @@
 //! | Whether a connection is open, and how it was opened | `connections` |
 //! | Whether a server was taken down | `downs` |
 //! | Who has a place of the tables | `places` |
+//! | Whether a pool comes after those that its virtual address was given | `greatest_given` |
+//! | Whether a change comes after those that were refused | `greatest_refused` |
+//! | Whether an entry is live in each row of a key's group | `live_rows` |
+//! | Which sweep was the last | `last_sweep` |
 //! | After the walk: whether each packet has its final line | `final_lines`; `pairing`: `answers`, `held_counts` |
 //!
 //! `judge` asks them, and asks the plain bodies of `sr_law` what has no index yet: why openers were held or found their
-//! ring full, whether a version is free, whether a connection was quiet, and the final lines. `walk` goes over the lines.
+//! ring full, whether a version is free, and whether a connection was quiet. `walk` goes over the lines.
 #![tactic(auto)]
 
 mod answers;
@@ -22,11 +26,15 @@ mod audit;
 mod connections;
 mod downs;
 mod final_lines;
+mod greatest_given;
+mod greatest_refused;
 mod held_counts;
 mod judge;
 mod last_givings;
+mod last_sweep;
 mod last_update;
 mod lately;
+mod live_rows;
 mod pairing;
 mod places;
 mod switches;
