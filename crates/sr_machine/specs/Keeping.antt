@@ -9,6 +9,9 @@ use Rattle.sr_machine.specs.Ops.{op_answer, op_name, op_words}
 use Rattle.sr_machine.specs.Pipe.{has_vip, is_idle, pipe_after, pipe_op}
 use Rattle.sr_machine.specs.Starting.{begun}
 use Rattle.sr_machine.specs.Telling.{is_no_earlier, may_refuse}
+use Rattle.sr_machine.specs.declared.event.Event.{Event}
+use Rattle.sr_machine.specs.declared.event.Event.TheVariants as event
+use Rattle.sr_machine.specs.declared.event.Event.TheVariants.{Due, Refuse, Step}
 use Rattle.sr_machine.specs.declared.job.Job.{Job}
 use Rattle.sr_machine.specs.declared.op.Op.{Op}
 use Rattle.sr_machine.specs.declared.pipe_view.PipeView.{PipeView}
@@ -43,8 +46,16 @@ abbrev pub AfterJob : (Core → Type 0) → Core → Job → Option Op → Type 
 AfterJob Fact s j None = Unit {0}
 AfterJob Fact s j (Some o) = Fact (job_core s j o)
 
--- What is owed, where the base holds of the state before. The controller's steps are asked of states in which it has begun.
-pub record Keeps (Base Fact : Core → Type 0) : Type 0 where
+-- every packet that enters is one of these
+abbrev pub Brings : (Packet → Type 0) → Event → Type 0
+Brings Allowed (event.Enter p packet) = Allowed packet
+Brings Allowed (Due ms) = Unit {0}
+Brings Allowed Refuse = Unit {0}
+Brings Allowed (Step actor) = Unit {0}
+
+-- What is owed, where the base holds of the state before, and each packet that enters is an allowed one. The controller's steps are
+-- asked of states in which it has begun.
+pub record Keeps (Allowed : Packet → Type 0) (Base Fact : Core → Type 0) : Type 0 where
   pub stages : (s : Core) (p : ℕ) (v : PipeView) (stage : Stage) → slice_get s.pipes p ≡ Some v → v.stage ≡ stage → Base s
       → Fact s
       → AfterStage Fact s p v stage (pipe_op s.config.layout v stage)
@@ -52,7 +63,8 @@ pub record Keeps (Base Fact : Core → Type 0) : Type 0 where
   pub jobs : (s : Core) (j : Job) → s.controller.job ≡ j → in_bounds s.controller ≡ true → Base s → Fact s
       → AfterJob Fact s j (job_op s.config s.controller j)
   pub enters : (s : Core) (p : ℕ) (v : PipeView) (packet : Packet) → slice_get s.pipes p ≡ Some v → is_idle v.stage ≡ true
-      → has_vip s.config.layout packet ≡ true → nat_lt (length v.lines + 1) (2 ^ 32) ≡ true → Base s → Fact s
+      → has_vip s.config.layout packet ≡ true → nat_lt (length v.lines + 1) (2 ^ 32) ≡ true → Allowed packet → Base s
+      → Fact s
       → Fact (record s { pipes = slice_set s.pipes p (record v { stage = Enter packet }) })
   pub clocks : (s : Core) (ms : ℕ) → is_no_earlier s.controller.clock ms ≡ true → Base s → Fact s
       → Fact (record s { controller = record s.controller { clock = Some ms } })
