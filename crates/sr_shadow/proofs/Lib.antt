@@ -1,5 +1,6 @@
 pub mod Books
 pub mod Classes
+pub mod Counting
 pub mod Finding
 pub mod Gives
 pub mod Holding

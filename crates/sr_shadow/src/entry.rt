@@ -87,8 +87,8 @@ pub(crate) fn standing(way: u8, entry: &Entry) -> u64
     }
 }
 
-// The quiet sweeps in a row after one more, which found a hit or found none; the first one counts none.
-pub(crate) fn quiet_after(hit: bool, quiet: Option<u8>) -> u8
+/// The quiet sweeps in a row after one more, which found a hit or found none; the first one counts none.
+pub fn quiet_after(hit: bool, quiet: Option<u8>) -> u8
     ensures { result ≡ quiet_after hit quiet }
 {
     match quiet {

@@ -33,14 +33,14 @@ mod took;
 mod version_counts;
 
 pub use book::Book;
-pub use entry::Entry;
+pub use entry::{Entry, quiet_after};
 pub use laws::{
     later_ways, marks_change_no_plan, moves_make_room, moves_stay_apart, own_places_stand,
     plans_give, slots_make_no_room, slots_stay_apart, taking_makes_no_room,
 };
 pub use mistaking::is_mistaken;
 pub use own_places::{key_rows, key_slots, other_way, slots_of};
-pub use plain::{plan_over, plan_plain};
+pub use plain::{entry_at, is_clashing, is_clashing_with, is_registered, plan_over, plan_plain};
 pub use plan::Plan;
 pub use shadow::{Shadow, book_rules};
 pub use took::Took;

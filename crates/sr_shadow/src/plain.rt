@@ -1,10 +1,10 @@
 //! The first plan by its definition: every question is a walk over the whole list of entries. Slow, and the measure for every other body.
 
-ghost use Rattle.std.specs.Prelude.{◌≡◌, ◌≤◌, IfOk};
+ghost use Rattle.std.specs.Prelude.{◌≡◌, ◌≤◌, cond, IfOk, Some, None};
 ghost use Rattle.sr_base.specs.declared.place.Place.TheVariants.{Slot};
 ghost use Rattle.sr_shadow.specs.Book.{holder_of, is_clashing, is_registered, is_rival};
 ghost use Rattle.sr_shadow.specs.Entry.{fresh};
-ghost use Rattle.sr_shadow.specs.Plan.{entry_at, first_plan, first_usable, is_clear_but, is_free, is_mistaken_but, is_usable, key_slots, move_from, move_if_clear, move_plan, move_to, moved_if, row_plan, slot_plan, slots_of, target, with_key, with_moved};
+ghost use Rattle.sr_shadow.specs.Plan.{entry_at, first_plan, first_usable, is_clear_but, is_free, is_mistaken_but, key_slots, move_from, move_if_clear, move_plan, move_to, moved_if, row_plan, slot_plan, slot_then, slots_of, target, with_key, with_moved};
 
 use crate::mistaking::is_mistaken;
 use crate::own_places::{key_rows, key_slots, other_way};
@@ -23,23 +23,23 @@ pub fn plan_plain(
     ensures { IfOk result (λ p. p ≡ first_plan layout.now.shape shadow.now.book.entries key) }
 {
     let es = entries(alloc, shadow)?;
-    plan_over(alloc, layout, &es, key)
+    Ok(plan_over(layout, &es, key))
 }
 
-/// The plan of a key without a Live place over a list of entries.
+/// The plan of a key without a Live place over a list of entries. It takes no memory.
 #[tactic(auto, unfolding(crate::specs::Plan::first_plan))]
-pub fn plan_over(alloc: Global, layout: &Layout, es: &[Entry], key: Key) -> Result<Plan, AllocError>
-    ensures { IfOk result (λ p. p ≡ first_plan layout.now.shape es.now key) }
+pub fn plan_over(layout: &Layout, es: &[Entry], key: Key) -> Plan
+    ensures { result ≡ first_plan layout.now.shape es.now key }
 {
     if let Some(plan) = slot_plan(layout, es, key) {
-        return Ok(plan);
+        return plan;
     }
-    if let Some(plan) = move_plan(alloc, layout, es, key)? {
-        return Ok(plan);
+    if let Some(plan) = move_plan(layout, es, key) {
+        return plan;
     }
     match row_plan(layout, es, key) {
-        Some(plan) => Ok(plan),
-        None => Ok(Plan::NoRoom),
+        Some(plan) => plan,
+        None => Plan::NoRoom,
     }
 }
 
@@ -87,40 +87,39 @@ fn usable_in(layout: &Layout, es: &[Entry], key: Key, way: u8) -> Option<Place>
 {
     layout_ranges(layout);
     let bucket = bucket(way, key, layout.shape().buckets);
-    if is_usable(layout, es, key, way, bucket, 0) {
-        Some(Place::Slot {
-            way,
-            bucket,
-            cell: 0,
-        })
-    } else if is_usable(layout, es, key, way, bucket, 1) {
-        Some(Place::Slot {
-            way,
-            bucket,
-            cell: 1,
-        })
-    } else if is_usable(layout, es, key, way, bucket, 2) {
-        Some(Place::Slot {
-            way,
-            bucket,
-            cell: 2,
-        })
-    } else if is_usable(layout, es, key, way, bucket, 3) {
-        Some(Place::Slot {
-            way,
-            bucket,
-            cell: 3,
-        })
+    let alone = !is_clashing(layout, es, way, key);
+    first_cell(
+        way,
+        bucket,
+        is_free(es, slot(way, bucket, 0)) && alone,
+        is_free(es, slot(way, bucket, 1)) && alone,
+        is_free(es, slot(way, bucket, 2)) && alone,
+        is_free(es, slot(way, bucket, 3)) && alone,
+    )
+}
+
+fn slot(way: u8, bucket: u32, cell: u8) -> Place
+    ensures { result ≡ Slot way bucket cell }
+{
+    Place::Slot { way, bucket, cell }
+}
+
+// The first slot of a bucket of which this holds.
+fn first_cell(way: u8, bucket: u32, one: bool, two: bool, three: bool, four: bool) -> Option<Place>
+    ensures { result ≡ cond one (Some (Slot way bucket 0)) (cond two (Some (Slot way bucket 1))
+        (cond three (Some (Slot way bucket 2)) (cond four (Some (Slot way bucket 3)) None))) }
+{
+    if one {
+        Some(slot(way, bucket, 0))
+    } else if two {
+        Some(slot(way, bucket, 1))
+    } else if three {
+        Some(slot(way, bucket, 2))
+    } else if four {
+        Some(slot(way, bucket, 3))
     } else {
         None
     }
-}
-
-fn is_usable(layout: &Layout, es: &[Entry], key: Key, way: u8, bucket: u32, cell: u8) -> bool
-    requires { (1 ≤ way) × (way ≤ 2) }
-    ensures { result ≡ is_usable layout.now.shape es.now key (Slot way bucket cell) }
-{
-    is_free(es, Place::Slot { way, bucket, cell }) && !is_clashing(layout, es, way, key)
 }
 
 // Whether nobody holds a place.
@@ -142,8 +141,8 @@ fn holder(es: &[Entry], place: Place) -> Option<Key>
     None
 }
 
-// Whether another key outside the table of full keys clashes with this one in a way.
-fn is_clashing(layout: &Layout, es: &[Entry], way: u8, key: Key) -> bool
+/// Whether another registered key outside the table of full keys clashes with this one in a way, over a list of entries.
+pub fn is_clashing(layout: &Layout, es: &[Entry], way: u8, key: Key) -> bool
     requires { (1 ≤ way) × (way ≤ 2) }
     ensures { result ≡ is_clashing layout.now.shape way key es.now }
 {
@@ -155,6 +154,7 @@ fn is_clashing(layout: &Layout, es: &[Entry], way: u8, key: Key) -> bool
     false
 }
 
+// Whether the entry is such a key's.
 fn is_rival(layout: &Layout, way: u8, key: Key, entry: &Entry) -> bool
     requires { (1 ≤ way) × (way ≤ 2) }
     ensures { result ≡ is_rival layout.now.shape way key entry.now }
@@ -188,45 +188,34 @@ fn is_mistaken_but(layout: &Layout, key: Key, other: Key, entry: &Entry) -> bool
 
 // ---- a move
 
-fn move_plan(
-    alloc: Global,
-    layout: &Layout,
-    es: &[Entry],
-    key: Key,
-) -> Result<Option<Plan>, AllocError>
-    ensures { IfOk result (λ p. p ≡ move_plan layout.now.shape es.now key) }
+fn move_plan(layout: &Layout, es: &[Entry], key: Key) -> Option<Plan>
+    ensures { result ≡ move_plan layout.now.shape es.now key }
 {
     let slots = key_slots(layout, key);
     for slot in slots.as_slice() {
-        let plan = move_from(alloc, layout, es, key, *slot)?;
+        let plan = move_from(layout, es, key, *slot);
         if plan.is_some() {
-            return Ok(plan);
+            return plan;
         }
     }
-    Ok(None)
+    None
 }
 
 // The move of the entry in a slot.
-fn move_from(
-    alloc: Global,
-    layout: &Layout,
-    es: &[Entry],
-    key: Key,
-    slot: Place,
-) -> Result<Option<Plan>, AllocError>
-    ensures { IfOk result (λ p. p ≡ move_from layout.now.shape es.now key slot) }
+fn move_from(layout: &Layout, es: &[Entry], key: Key, slot: Place) -> Option<Plan>
+    ensures { result ≡ move_from layout.now.shape es.now key slot }
 {
     match slot {
         Place::Slot { way, .. } => match entry_at(es, slot) {
-            Some(entry) => move_of(alloc, layout, es, key, entry.key, other_way(way), slot),
-            None => Ok(None),
+            Some(entry) => move_of(layout, es, key, entry.key, other_way(way), slot),
+            None => None,
         },
-        Place::Row { .. } => Ok(None),
+        Place::Row { .. } => None,
     }
 }
 
-// The entry whose Live place this is.
-fn entry_at(es: &[Entry], place: Place) -> Option<Entry>
+/// The entry whose Live place this is, over a list of entries.
+pub fn entry_at(es: &[Entry], place: Place) -> Option<Entry>
     ensures { result ≡ entry_at place es.now }
 {
     for entry in es {
@@ -239,29 +228,24 @@ fn entry_at(es: &[Entry], place: Place) -> Option<Entry>
 
 // The move of a key's entry from a slot to one of this way.
 fn move_of(
-    alloc: Global,
     layout: &Layout,
     es: &[Entry],
     key: Key,
     other: Key,
     way: u8,
     from: Place,
-) -> Result<Option<Plan>, AllocError>
+) -> Option<Plan>
     requires { (1 ≤ way) × (way ≤ 2) }
-    ensures { IfOk result (λ p. p ≡ move_to layout.now.shape es.now key other from (target layout.now.shape es.now key other way)) }
+    ensures { result ≡ move_to layout.now.shape es.now key other from (target layout.now.shape es.now key other way) }
 {
-    let counted = with_key(alloc, es, key)?;
-    let Some(to) = usable_in(layout, &counted, other, way) else {
-        return Ok(None);
-    };
-    let moved = with_moved(alloc, es, other, to)?;
-    Ok(move_if_clear(
+    let to = target(layout, es, key, other, way)?;
+    move_if_clear(
         is_clear_but(layout, es, key, other),
         other,
         from,
         to,
-        usable(layout, &moved, key),
-    ))
+        slot_then(layout, es, key, other, to),
+    )
 }
 
 fn move_if_clear(clear: bool, key: Key, from: Place, to: Place, last: Option<Place>) -> Option<Plan>
@@ -280,28 +264,46 @@ fn move_if_clear(clear: bool, key: Key, from: Place, to: Place, last: Option<Pla
     }
 }
 
-// The entries where the key is registered.
-fn with_key(alloc: Global, es: &[Entry], key: Key) -> Result<Vec<Entry>, AllocError>
-    ensures { IfOk result (λ v. v.items ≡ with_key key es.now) }
+// ---- where the key is registered
+
+// The first usable slot of another key of this way, where the key is registered.
+fn target(layout: &Layout, es: &[Entry], key: Key, other: Key, way: u8) -> Option<Place>
+    requires { (1 ≤ way) × (way ≤ 2) }
+    ensures { result ≡ target layout.now.shape es.now key other way }
 {
-    let mut counted = copied(alloc, es)?;
-    if !is_registered(es, key) {
-        counted.push(fresh(key))?;
-    }
-    Ok(counted)
+    layout_ranges(layout);
+    let bucket = bucket(way, other, layout.shape().buckets);
+    let alone = !is_clashing_with(layout, es, key, way, other);
+    first_cell(
+        way,
+        bucket,
+        is_free_with(es, key, slot(way, bucket, 0)) && alone,
+        is_free_with(es, key, slot(way, bucket, 1)) && alone,
+        is_free_with(es, key, slot(way, bucket, 2)) && alone,
+        is_free_with(es, key, slot(way, bucket, 3)) && alone,
+    )
 }
 
-fn copied(alloc: Global, es: &[Entry]) -> Result<Vec<Entry>, AllocError>
-    ensures { IfOk result (λ v. v.items ≡ es.now) }
+// Whether nobody holds a place: a key that is only registered holds none.
+#[tactic(auto, using(crate::proofs::Moving::counted_holder))]
+fn is_free_with(es: &[Entry], key: Key, place: Place) -> bool
+    ensures { result ≡ is_free (with_key key es.now) place }
 {
-    let mut copy = Vec::new(alloc);
-    for entry in es {
-        copy.push(*entry)?;
-    }
-    Ok(copy)
+    is_free(es, place)
 }
 
-fn is_registered(es: &[Entry], key: Key) -> bool
+/// Whether another registered key outside the table of full keys clashes with this one in a way, where one key more is registered.
+#[tactic(auto, using(crate::proofs::Counting::counted_clashing))]
+pub fn is_clashing_with(layout: &Layout, es: &[Entry], counted: Key, way: u8, key: Key) -> bool
+    requires { (1 ≤ way) × (way ≤ 2) }
+    ensures { result ≡ is_clashing layout.now.shape way key (with_key counted es.now) }
+{
+    is_clashing(layout, es, way, key)
+        || (!is_registered(es, counted) && is_rival(layout, way, key, &fresh(counted)))
+}
+
+/// Whether the key has an entry, over a list of entries.
+pub fn is_registered(es: &[Entry], key: Key) -> bool
     ensures { result ≡ is_registered key es.now }
 {
     for entry in es {
@@ -326,17 +328,67 @@ fn fresh(key: Key) -> Entry
     }
 }
 
-// The entries with a key's at another place, which it holds alone.
-fn with_moved(alloc: Global, es: &[Entry], other: Key, to: Place) -> Result<Vec<Entry>, AllocError>
-    ensures { IfOk result (λ v. v.items ≡ with_moved other to es.now) }
+// ---- where an entry has moved
+
+// The key's first usable slot, where another key's entry has moved.
+fn slot_then(layout: &Layout, es: &[Entry], key: Key, other: Key, to: Place) -> Option<Place>
+    ensures { result ≡ slot_then layout.now.shape es.now key other to }
 {
-    let mut all = Vec::new(alloc);
-    for entry in es {
-        all.push(moved_if(other, to, entry))?;
+    match slot_then_in(layout, es, key, other, to, 1) {
+        Some(place) => Some(place),
+        None => slot_then_in(layout, es, key, other, to, 2),
     }
-    Ok(all)
 }
 
+// The first of a way.
+fn slot_then_in(
+    layout: &Layout,
+    es: &[Entry],
+    key: Key,
+    other: Key,
+    to: Place,
+    way: u8,
+) -> Option<Place>
+    requires { (1 ≤ way) × (way ≤ 2) }
+    ensures { result ≡ first_usable layout.now.shape (with_moved other to es.now) key (slots_of layout.now.shape way key) }
+{
+    layout_ranges(layout);
+    let bucket = bucket(way, key, layout.shape().buckets);
+    let alone = !is_clashing_then(layout, es, other, to, way, key);
+    first_cell(
+        way,
+        bucket,
+        is_free_then(es, other, to, slot(way, bucket, 0)) && alone,
+        is_free_then(es, other, to, slot(way, bucket, 1)) && alone,
+        is_free_then(es, other, to, slot(way, bucket, 2)) && alone,
+        is_free_then(es, other, to, slot(way, bucket, 3)) && alone,
+    )
+}
+
+fn is_free_then(es: &[Entry], other: Key, to: Place, place: Place) -> bool
+    ensures { result ≡ is_free (with_moved other to es.now) place }
+{
+    for entry in es {
+        if moved_if(other, to, entry).holds(place) {
+            return false;
+        }
+    }
+    true
+}
+
+fn is_clashing_then(layout: &Layout, es: &[Entry], other: Key, to: Place, way: u8, key: Key) -> bool
+    requires { (1 ≤ way) × (way ≤ 2) }
+    ensures { result ≡ is_clashing layout.now.shape way key (with_moved other to es.now) }
+{
+    for entry in es {
+        if is_rival(layout, way, key, &moved_if(other, to, entry)) {
+            return true;
+        }
+    }
+    false
+}
+
+// The entry, moved where it is the other key's: it holds the place alone.
 fn moved_if(other: Key, to: Place, entry: &Entry) -> Entry
     ensures { result ≡ moved_if other to entry.now }
 {
