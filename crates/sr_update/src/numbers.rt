@@ -115,8 +115,8 @@ impl Numbers {
         }
     }
 
-    // A number's state becomes another.
-    pub(crate) fn put(&mut self, vip: u8, version: Version, state: NumberState)
+    /// A number's state becomes another.
+    pub fn put(&mut self, vip: u8, version: Version, state: NumberState)
         requires { version < length (row_of vip self.old) }
         ensures { self.new ≡ with_state vip version state self.old }
     {

@@ -1,4 +1,4 @@
-ghost use Rattle.std.specs.Prelude.{◌≡◌, ◌^◌, ◌<◌, ◌≤◌, ◌∷◌, ◌++◌, List, [], length, OnOk, Some, None, IfOk, IsSome, option_map};
+ghost use Rattle.std.specs.Prelude.{◌≡◌, ◌^◌, ◌<◌, ◌≤◌, ◌∷◌, ◌++◌, List, [], length, drop, OnOk, Some, None, IfOk, IsSome, option_map};
 ghost use Rattle.std.specs.List.{AllByRecursion};
 ghost use Rattle.sr_base.specs.Fitting.{IsInTime};
 ghost use Rattle.sr_base.specs.declared.change.Change.{Change as AChange};
@@ -56,6 +56,29 @@ impl Updates {
         ensures { self.new ≡ record self.old { clock = Some ms } }
     {
         self.clock = Some(ms);
+    }
+
+    /// The changes, in order.
+    pub fn gives(&self) -> &[GiveChange]
+        ensures { result.now ≡ self.now.gives }
+    {
+        &self.gives[self.next..]
+    }
+
+    /// The clock: none before it is set.
+    pub fn clock(&self) -> Option<u64>
+        ensures { result ≡ self.now.clock }
+    {
+        self.clock
+    }
+
+    /// The first change goes, due or not; where there is none nothing changes.
+    pub fn drop_first(&mut self)
+        ensures { self.new ≡ record self.old { gives = drop 1 self.old.gives } }
+    {
+        if self.next < self.gives.len() {
+            self.next = self.next + 1;
+        }
     }
 
     /// The first change that is due.
