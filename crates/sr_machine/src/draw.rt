@@ -2,6 +2,7 @@ use crate::{PoolUpdate, Put, Reply, Wait, Why};
 use sr_base::{Key, Phase, Place, Version};
 
 /// What the controller draws a tick for.
+#[derive(Clone, Copy)]
 pub enum Draw {
     /// A wait begins.
     Grace(Wait),

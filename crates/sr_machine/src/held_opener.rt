@@ -1,6 +1,7 @@
 use sr_base::Key;
 
 /// An opener that a pipe held, and that the controller hasn't answered.
+#[derive(Clone, Copy)]
 pub struct HeldOpener {
     /// The pipe.
     pub pipe: u8,

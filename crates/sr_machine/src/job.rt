@@ -2,6 +2,7 @@ use crate::{Draw, Store, Wait};
 use sr_base::{Key, Place};
 
 /// The next step of the controller.
+#[derive(Clone, Copy)]
 pub enum Job {
     /// None is set: it is whatever comes first by the order of the controller's acts.
     Free,

@@ -1,4 +1,5 @@
 /// A change that takes a server down, and that was not made.
+#[derive(Clone, Copy)]
 pub struct Outage {
     /// When it is due, in milliseconds of capture time.
     pub at_ms: u64,

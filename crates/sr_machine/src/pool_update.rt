@@ -1,6 +1,7 @@
 use sr_base::Version;
 
 /// A change of a virtual address's pool that is under way.
+#[derive(Clone, Copy)]
 pub struct PoolUpdate {
     /// The virtual address.
     pub vip: u8,

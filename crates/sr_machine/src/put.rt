@@ -2,6 +2,7 @@ use crate::HeldOpener;
 use sr_base::{Key, Place};
 
 /// What a key is put into a place for.
+#[derive(Clone, Copy)]
 pub enum Aim {
     /// The key is pending.
     Pending,
@@ -17,6 +18,7 @@ pub enum Aim {
 }
 
 /// A key is put into a place.
+#[derive(Clone, Copy)]
 pub struct Put {
     /// The key.
     pub key: Key,

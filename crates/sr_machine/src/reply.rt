@@ -2,6 +2,7 @@ use crate::HeldOpener;
 use sr_base::Version;
 
 /// The answer to a held opener.
+#[derive(Clone, Copy)]
 pub struct Reply {
     /// The opener.
     pub held: HeldOpener,

@@ -2,6 +2,7 @@ use crate::{PoolUpdate, Put, Why};
 use sr_base::{Key, Phase, Place};
 
 /// What the controller stores.
+#[derive(Clone, Copy)]
 pub enum Store {
     /// This server is down.
     Down(u32),

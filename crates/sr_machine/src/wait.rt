@@ -2,6 +2,7 @@ use crate::{PoolUpdate, Put};
 use sr_base::{Key, Phase, Version};
 
 /// What the controller lets each packet in flight pass for, and takes the reports in the rings.
+#[derive(Clone, Copy)]
 pub enum Wait {
     /// A reserved place is to be made live or given up.
     Judge(Put),

@@ -2,6 +2,7 @@ use crate::Reply;
 use sr_base::Version;
 
 /// Why a place is emptied.
+#[derive(Clone, Copy)]
 pub enum Why {
     /// What was reserved there isn't made live; where an opener is to be answered then, this is the answer.
     Withdrawn(Option<Reply>),
