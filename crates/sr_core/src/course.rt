@@ -14,8 +14,8 @@ use sr_hash::{bloom_places, bucket, group};
 use sr_law::{HeldBy, Verdict};
 use sr_machine::{Flight, Said};
 
-// Whether a packet opens a connection.
-pub(crate) fn is_opener(kind: Kind) -> bool
+/// Whether a packet opens a connection.
+pub fn is_opener(kind: Kind) -> bool
     ensures { result ≡ is_opener kind }
 {
     match kind {
@@ -83,8 +83,8 @@ pub(crate) fn key_places(layout: &Layout, key: Key) -> [Place; 12]
     ]
 }
 
-// Its places of the transit filter.
-pub(crate) fn key_bits(layout: &Layout, key: Key) -> [u32; 3]
+/// Its places of the transit filter.
+pub fn key_bits(layout: &Layout, key: Key) -> [u32; 3]
     ensures value { result ≡ key_bits layout.now key }
     ensures fit { HaveBits layout.now.shape result }
 {
@@ -212,8 +212,8 @@ pub(crate) fn filtered(
     }
 }
 
-// The verdict by a server that is down or isn't.
-pub(crate) fn verdict_by(down: bool, server: u32, version: Version, pool: u64) -> Verdict
+/// The verdict by a server that is down or isn't.
+pub fn verdict_by(down: bool, server: u32, version: Version, pool: u64) -> Verdict
     ensures { result ≡ verdict_by down server version pool }
 {
     if down {
@@ -269,8 +269,8 @@ pub(crate) fn is_recording(phase: Phase) -> bool
     }
 }
 
-// Whether an opener is recorded in the transit filter.
-pub(crate) fn is_recorded(flight: &Flight, verdict: &Verdict) -> bool
+/// Whether an opener is recorded in the transit filter.
+pub fn is_recorded(flight: &Flight, verdict: &Verdict) -> bool
     ensures { result ≡ is_recorded flight.now verdict.now }
 {
     is_opener(flight.packet.kind) && is_to(verdict) && is_recording(flight.vip.phase)

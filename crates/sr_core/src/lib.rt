@@ -10,13 +10,13 @@
 //! | A pipe: packets enter, steps are made, lines are written | `pipe_machine` | `HeldPipe` |
 #![tactic(auto)]
 
-mod course;
+pub mod course;
 mod pipe_machine;
 mod plain_words;
-mod reads;
-mod stepping;
+pub mod reads;
+pub mod stepping;
 mod track;
 
-pub use pipe_machine::PipeMachine;
+pub use pipe_machine::{PipeMachine, packet_line};
 pub use plain_words::PlainWords;
 pub use track::{Course, Track};

@@ -1,4 +1,4 @@
-ghost use Rattle.std.specs.Prelude.{◌≡◌, ◌+◌, ◌-◌, ◌^◌, ◌<◌, ◌≤◌, true, length, Some, IfSome, OnOk, vec_capacity, vec_len};
+ghost use Rattle.std.specs.Prelude.{◌≡◌, ◌+◌, ◌-◌, ◌^◌, ◌<◌, ◌≤◌, [], ◌∷◌, ◌++◌, true, if◌then◌else◌, length, Some, IfSome, OnOk, vec_capacity, vec_len};
 ghost use Rattle.sr_base.specs.WordName.{HasWord};
 ghost use Rattle.sr_machine.specs.Names.{word_name};
 ghost use Rattle.sr_machine.specs.Ops.{op_name};
@@ -83,6 +83,20 @@ impl PipeMachine {
         self.number
     }
 
+    /// Its layout.
+    pub fn layout(&self) -> &Layout
+        ensures { result.now ≡ self.now.layout }
+    {
+        &self.layout
+    }
+
+    /// How many reports it has stored in its ring.
+    pub fn pushed(&self) -> u64
+        ensures { result ≡ self.now.view.pushed }
+    {
+        self.pushed
+    }
+
     /// Whether it has no packet in hand.
     pub fn is_idle(&self) -> bool
         ensures { result ≡ is_idle self.now.view.stage }
@@ -128,6 +142,27 @@ impl PipeMachine {
     }
 }
 
+impl PipeMachine {
+    /// A packet was handled at one go: its line is written, and its report counts where it stored one.
+    pub fn handled(&mut self, reported: bool, flight: &Flight, verdict: &Verdict, out: u64)
+        requires idle { is_idle self.old.view.stage ≡ true }
+        requires lines { length self.old.view.lines + 1 < 2 ^ 32 }
+        requires room { 0 < self.old.room }
+        ensures layout { self.new.layout ≡ self.old.layout }
+        ensures view { self.new.view ≡ record self.old.view {
+          pushed = self.old.view.pushed + (if reported then 1 else 0);
+          lines = self.old.view.lines ++ packet_line self.old.view.number flight.now verdict.now out ∷ [];
+        } }
+        ensures room { self.new.room ≡ self.old.room - 1 }
+    {
+        if reported {
+            self.pushed += 1;
+        }
+        let line = packet_line(self.number, flight, verdict, out);
+        self.lines.push_reserved(line);
+    }
+}
+
 // How many reports were pushed after a step.
 fn pushed_after(track: &Track, pushed: u64) -> u64
     requires { pushed_after (stage_of track.now) pushed < 2 ^ 64 }
@@ -161,8 +196,8 @@ fn write_line(lines: &mut Vec<Line>, pipe: u8, track: &Track, out: u64)
     }
 }
 
-// The line of a packet that leaves at this tick.
-fn packet_line(pipe: u8, flight: &Flight, verdict: &Verdict, out: u64) -> Line
+/// The line of a packet that leaves at this tick.
+pub fn packet_line(pipe: u8, flight: &Flight, verdict: &Verdict, out: u64) -> Line
     ensures { result ≡ packet_line pipe flight.now verdict.now out }
 {
     Line::Packet {

@@ -2,6 +2,7 @@
 
 ghost use Rattle.std.specs.Prelude.{◌≡◌, ◌<◌, ◌≤◌, ◌&&◌, nat_lt, if◌then◌else◌, Some};
 ghost use Rattle.sr_base.specs.WordName.{HasPlace};
+ghost use Rattle.sr_hash.specs.Uses.{digest_of};
 ghost use Rattle.sr_machine.specs.Reads.{cell_says, filter_bit, has_bit, head_in, read_flag, read_head, read_server, read_vip, row_says, says, steady, vip_in};
 ghost use Rattle.sr_machine.specs.declared.said.Said.TheVariants.{Live, Nothing};
 ghost use Rattle.sr_core.specs.Ranges.{SaidFits};
@@ -9,7 +10,7 @@ ghost use Rattle.sr_core.specs.Ranges.{SaidFits};
 use sr_base::{
     FullWord, Key, Layout, Phase, Place, RowHead, SlotWord, Version, VipWord, layout_ranges,
 };
-use sr_hash::matches;
+use sr_hash::digest;
 use sr_machine::Said;
 
 // No update, and version 0.
@@ -23,9 +24,9 @@ fn steady_zero() -> VipWord
     }
 }
 
-// What the word of a virtual address says.
+/// What the word of a virtual address says.
 #[tactic(auto, unfolding(sr_machine::specs::Reads::read_vip))]
-pub(crate) fn read_vip(layout: &Layout, x: u64) -> VipWord
+pub fn read_vip(layout: &Layout, x: u64) -> VipWord
     ensures value { result ≡ read_vip layout.now x }
     ensures cur { result.cur < layout.now.shape.versions }
     ensures next { result.next < layout.now.shape.versions }
@@ -79,16 +80,41 @@ fn cell_says(layout: &Layout, way: u8, key: Key, word: &SlotWord) -> Said
     ensures version { SaidFits layout.now result }
 {
     layout_ranges(layout);
-    let found = matches(*word, way, key, layout.shape().digest_bits);
+    digest_says(
+        layout,
+        way,
+        key,
+        digest(way, key, layout.shape().digest_bits),
+        word,
+    )
+}
+
+/// What a cell of this way says to a packet of the key, whose digest of the way this is.
+pub fn digest_says(layout: &Layout, way: u8, key: Key, own: u16, word: &SlotWord) -> Said
+    requires { own ≡ digest_of way key layout.now.shape.digest_bits }
+    ensures value { result ≡ cell_says layout.now way key (Some word.now) }
+    ensures version { SaidFits layout.now result }
+{
+    let _ = way;
     match word {
         SlotWord::Empty => Said::Nothing,
-        SlotWord::Reserved { .. } => { if found { Said::Reserved } else { Said::Nothing } }
-        SlotWord::Live { version, .. } => live_if(layout, found, *version),
+        SlotWord::Reserved { vip, digest } => {
+            if *vip == key.vip && *digest == own {
+                Said::Reserved
+            } else {
+                Said::Nothing
+            }
+        }
+        SlotWord::Live {
+            vip,
+            digest,
+            version,
+        } => live_if(layout, *vip == key.vip && *digest == own, *version),
     }
 }
 
-// What a row says.
-fn row_says(layout: &Layout, key: Key, word: &FullWord) -> Said
+/// What a row says.
+pub fn row_says(layout: &Layout, key: Key, word: &FullWord) -> Said
     ensures value { result ≡ row_says layout.now key (Some word.now) }
     ensures version { SaidFits layout.now result }
 {
@@ -117,9 +143,9 @@ fn live_if(layout: &Layout, found: bool, version: Version) -> Said
     }
 }
 
-// The head of a version.
+/// The head of a version.
 #[tactic(auto, unfolding(sr_machine::specs::Reads::read_head))]
-pub(crate) fn read_head(layout: &Layout, x: u64) -> RowHead
+pub fn read_head(layout: &Layout, x: u64) -> RowHead
     ensures value { result ≡ read_head layout.now x }
     ensures some { 1 ≤ result.size }
     ensures most { result.size ≤ layout.now.shape.pool_max }
@@ -137,9 +163,9 @@ pub(crate) fn read_head(layout: &Layout, x: u64) -> RowHead
     }
 }
 
-// A server of the layout.
+/// A server of the layout.
 #[tactic(auto, unfolding(sr_machine::specs::Reads::read_server))]
-pub(crate) fn read_server(layout: &Layout, x: u64) -> u32
+pub fn read_server(layout: &Layout, x: u64) -> u32
     ensures value { result ≡ read_server layout.now x }
     ensures below { result < layout.now.servers }
 {
@@ -151,17 +177,17 @@ pub(crate) fn read_server(layout: &Layout, x: u64) -> u32
     }
 }
 
-// Whether a flag is set.
+/// Whether a flag is set.
 #[tactic(auto, unfolding(sr_machine::specs::Reads::read_flag))]
-pub(crate) fn read_flag(x: u64) -> bool
+pub fn read_flag(x: u64) -> bool
     ensures { result ≡ read_flag x }
 {
     x == 1
 }
 
-// Whether the bit of a place of the transit filter is set in its word.
+/// Whether the bit of a place of the transit filter is set in its word.
 #[tactic(auto, unfolding(sr_machine::specs::Reads::has_bit))]
-pub(crate) fn has_bit(bit: u32, x: u64) -> bool
+pub fn has_bit(bit: u32, x: u64) -> bool
     ensures { result ≡ has_bit bit x }
 {
     x >> (bit % 64) & 1 == 1

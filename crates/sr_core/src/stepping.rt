@@ -21,8 +21,8 @@ use sr_hash::select;
 use sr_law::{HeldBy, Verdict};
 use sr_machine::{Flight, Name, Op};
 
-// What a packet reports.
-fn report_by(key: Key, kind: Kind, verdict: &Verdict) -> RingWord
+/// What a packet reports.
+pub fn report_by(key: Key, kind: Kind, verdict: &Verdict) -> RingWord
     ensures value { result ≡ report_by key kind verdict.now }
 {
     match kind {
@@ -46,8 +46,8 @@ fn report_by(key: Key, kind: Kind, verdict: &Verdict) -> RingWord
     }
 }
 
-// The cell of the ring for a report of this number.
-fn ring_cell(layout: &Layout, pipe: u8, n: u64) -> Name
+/// The cell of the ring for a report of this number.
+pub fn ring_cell(layout: &Layout, pipe: u8, n: u64) -> Name
     requires { pipe < layout.now.shape.pipes }
     ensures value { result ≡ ring_cell layout.now pipe n }
     ensures named { HasWord layout.now (word_name result) }
