@@ -1,3 +1,5 @@
+mod FirstPools
 mod Places
 mod Rooms
 mod Showing
+mod Views

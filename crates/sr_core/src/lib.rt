@@ -8,15 +8,19 @@
 //! | What comes after each of its steps | `course` | |
 //! | Its next step, and the stage after it | `stepping` | |
 //! | A pipe: packets enter, steps are made, lines are written | `pipe_machine` | `HeldPipe` |
+//! | All pipes of a machine | `pipes` | `HeldPipes` |
+//! | The shared words as a plain list, and those at the beginning | `plain_words` | `PlainWords`, `FirstPools` |
 #![tactic(auto)]
 
 pub mod course;
 mod pipe_machine;
+mod pipes;
 mod plain_words;
 pub mod reads;
 pub mod stepping;
 mod track;
 
 pub use pipe_machine::{PipeMachine, packet_line};
+pub use pipes::Pipes;
 pub use plain_words::PlainWords;
 pub use track::{Course, Track};

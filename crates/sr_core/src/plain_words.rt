@@ -1,11 +1,14 @@
-ghost use Rattle.std.specs.Prelude.{◌≡◌, ℕ, IfOk, bit_or, replicate};
+ghost use Rattle.std.specs.Prelude.{◌≡◌, ℕ, ◌+◌, ◌<◌, IfOk, List, bit_or, length, replicate};
+ghost use Rattle.std.specs.List.{AllByRecursion};
+ghost use Rattle.sr_base.specs.Fitting.{IsPoolOf};
 ghost use Rattle.sr_base.specs.WordName.{HasWord, StoresApart, StoresStand, word_at, words_of};
 ghost use Rattle.sr_machine.specs.Names.{rewritten, word_name};
 ghost use Rattle.sr_machine.specs.Ops.{op_answer, op_name, op_words};
 ghost use Rattle.sr_machine.specs.declared.name.Name.{Name as AName};
+ghost use Rattle.sr_core.specs.FirstPools.{first_words, listed, with_members};
 ghost use Rattle.sr_core.specs.PlainWords.{ShowsWords};
 
-use sr_base::{Layout, words_stand_apart};
+use sr_base::{Layout, Pool, RowHead, layout_ranges, words_stand_apart};
 use sr_machine::{Name, Op};
 use std::alloc::{AllocError, Global};
 use std::marker::Model;
@@ -38,6 +41,61 @@ impl PlainWords {
             layout: *layout,
             words: vec![in alloc; 0; layout.words()]?,
         })
+    }
+
+    /// The words at the beginning: the first pools of the virtual addresses are named by their number 0, and no tick was drawn but
+    /// those of the lines that say so.
+    pub fn opening(alloc: Global, layout: &Layout, first: &[Pool]) -> Result<PlainWords, AllocError>
+        requires vips { length first.now ≡ layout.now.vips }
+        requires pools { AllByRecursion (IsPoolOf layout.now) first.now }
+        ensures layout { IfOk result (λ w. w.layout ≡ layout.now) }
+        ensures words { IfOk result (λ w. ShowsWords layout.now w.words (first_words layout.now (listed first.now) layout.now.vips)) }
+    {
+        let mut words = PlainWords::zeros(alloc, layout)?;
+        words.put(Name::Tick, layout.vips() as u64 + 1);
+        for vip in 0..layout.vips() {
+            words.give(vip, &first[vip as usize]);
+        }
+        Ok(words)
+    }
+
+    /// The first pool of a virtual address is named by its number 0.
+    pub fn give(&mut self, vip: u8, pool: &Pool)
+        requires vip { vip < self.old.layout.vips }
+        requires pool { IsPoolOf self.old.layout pool.now }
+        ensures layout { self.new.layout ≡ self.old.layout }
+        ensures words { (f : ℕ → List ℕ) → f vip ≡ pool.now → ShowsWords self.old.layout self.old.words (first_words self.old.layout f vip)
+            → ShowsWords self.new.layout self.new.words (first_words self.old.layout f (vip + 1)) }
+    {
+        layout_ranges(&self.layout);
+        let head = RowHead {
+            size: pool.size(),
+            pool: 1,
+        };
+        self.put(Name::Head { vip, version: 0 }, head.pack());
+        self.put_members(vip, pool);
+    }
+
+    // The members of a virtual address's first pool.
+    #[tactic(auto, using(crate::proofs::FirstPools::no_members, crate::proofs::FirstPools::member_more, crate::proofs::FirstPools::shows_same))]
+    fn put_members(&mut self, vip: u8, pool: &Pool)
+        requires vip { vip < self.old.layout.vips }
+        requires pool { IsPoolOf self.old.layout pool.now }
+        ensures layout { self.new.layout ≡ self.old.layout }
+        ensures words { (words : AName → ℕ) → ShowsWords self.old.layout self.old.words words
+            → ShowsWords self.new.layout self.new.words (with_members words vip pool.now (length pool.now)) }
+    {
+        layout_ranges(&self.layout);
+        for index in 0..pool.size() {
+            self.put(
+                Name::Member {
+                    vip,
+                    version: 0,
+                    index,
+                },
+                pool.at(index) as u64,
+            );
+        }
     }
 
     /// The word of a name.

@@ -1,0 +1,7 @@
+use Rattle.std.proofs.Common.{◌≡◌}
+use Rattle.sr_core.specs.FirstPools.{first_words, listed}
+use Rattle.sr_core.specs.PlainWords.{ShowsWords}
+use Rattle.sr_core.proofs.plain_words.PlainWords.opening.Given as goal
+
+abbrev pub invariant-loop-vip : goal.invariant-loop-vip
+invariant-loop-vip l = (l.words.layout ≡ l.layout) × ShowsWords l.layout l.words.words (first_words l.layout (listed l.first) l.vip)
