@@ -14,5 +14,6 @@ pub mod InTicks
 pub mod InUpdate
 pub mod InWords
 pub mod Invariant
+pub mod Laws
 pub mod OnTrack
 pub mod Readings
