@@ -2,4 +2,5 @@ mod FirstPools
 mod Places
 mod Rooms
 mod Showing
+mod Stepped
 mod Views

@@ -1,0 +1,42 @@
+-- The machine as it is held: its words as a list, and what each actor knows; and which state of the machine that is.
+use Rattle.std.specs.Prelude.{◌≡◌, ℕ, List, Option, None, Some}
+use Rattle.sr_core.specs.PlainWords.{ShowsWords}
+use Rattle.sr_law.specs.declared.line.Line.{Line}
+use Rattle.sr_core.specs.HeldPipes.{lines_at}
+use Rattle.sr_machine.specs.Config.{Config}
+use Rattle.sr_machine.specs.Core.{Core}
+use Rattle.sr_machine.specs.declared.actor.Actor.{Actor}
+use Rattle.sr_machine.specs.declared.actor.Actor.TheVariants as actor
+use Rattle.sr_machine.specs.declared.controller_view.ControllerView.{ControllerView}
+use Rattle.sr_machine.specs.declared.name.Name.{Name}
+use Rattle.sr_machine.specs.declared.pipe_view.PipeView.{PipeView}
+use Rattle.sr_machine.specs.declared.stepped.Stepped.{Stepped}
+use Rattle.sr_machine.specs.declared.stepped.Stepped.TheVariants.{Made, NotNow, Memory}
+
+pub record HeldCore : Type 0 where
+  pub config : Config
+  pub words : List ℕ
+  pub pipes : List PipeView
+  pub controller : ControllerView
+
+-- the state that it stands for, where the words are these
+abbrev pub state_of : HeldCore → (Name → ℕ) → Core
+state_of h words = record { config = h.config; words = words; pipes = h.pipes; controller = h.controller }
+
+-- it stands for this state: each word of the layout is the one of its name
+abbrev pub Shows : HeldCore → Core → Type 0
+Shows h s = (words : Name → ℕ) × ShowsWords h.config.layout h.words words × (s ≡ state_of h words)
+
+-- An event answers what it can do in the state: made, it leads to the state after it; what can't be made now, and what there was no
+-- memory for, leaves everything as it was.
+abbrev pub StepsTo : Stepped → Option Core → HeldCore → HeldCore → Type 0
+StepsTo Made (Some t) old new = Shows new t
+StepsTo Made None old new = ⊥
+StepsTo NotNow (Some t) old new = ⊥
+StepsTo NotNow None old new = new ≡ old
+StepsTo Memory does old new = new ≡ old
+
+-- the lines of an actor so far
+abbrev pub lines_by : Actor → HeldCore → List Line
+lines_by (actor.Pipe p) h = lines_at p h.pipes
+lines_by actor.Controller h = h.controller.lines
