@@ -1,3 +1,6 @@
+pub mod Beginning
+pub mod Books
 pub mod Keeping
 pub mod Lists
 pub mod Pipes
+pub mod Reading

@@ -1,8 +1,8 @@
 -- What holds of each element of a list, as the list changes.
-use Rattle.std.proofs.Common.{◌≡◌, ℕ, zero, suc, Bool, true, false, cond, List, [], ◌∷◌, ◌++◌, map, length, slice_get, slice_set, Some, filter, sym, refl, ap, ◌∙◌, subst, inl, inr, append_assoc, length-set}
+use Rattle.std.proofs.Common.{◌≡◌, ℕ, zero, suc, ◌+◌, Bool, true, false, cond, List, [], ◌∷◌, ◌++◌, map, length, drop, replicate, IfSome, slice_get, slice_index_or, slice_set, Some, filter, Option, sym, refl, ap, ◌∙◌, subst, inl, inr, append_assoc, arith, length-set}
 use Rattle.std.proofs.lemmas.Bool.{and_parts}
 use Rattle.std.proofs.lemmas.Option.{same_Some}
-use Rattle.std.specs.List.{AllByRecursion, list_all}
+use Rattle.std.specs.List.{AllByRecursion, list_all, range_with_len}
 use Rattle.sr_inv_facts.specs.Readings.{In, IsEnd}
 
 module _ {X : Type 0} where
@@ -93,3 +93,28 @@ module _ {X : Type 0} where
 pub all_images : {X Y : Type 0} (P : Y → Type 0) (f : X → Y) (xs : List X) → AllByRecursion (λ x. P (f x)) xs → AllByRecursion P (map f xs)
 all_images P f [] a = tt
 all_images P f (x ∷ xs) a = (a.0, all_images P f xs a.1)
+
+-- what holds of each element and of the default holds of the one at an index
+pub got_or : {X : Type 0} (P : X → Type 0) (xs : List X) (n : ℕ) (d : X) → AllByRecursion P xs → P d → P (slice_index_or xs n d)
+got_or P [] n d a p = p
+got_or P (x ∷ xs) zero d a p = a.0
+got_or P (x ∷ xs) (suc n) d a p = got_or P xs n d a.1 p
+
+pub dropped : {X : Type 0} (P : X → Type 0) (xs : List X) → AllByRecursion P xs → AllByRecursion P (drop 1 xs)
+dropped P [] a = tt
+dropped P (x ∷ xs) a = a.1
+
+-- what is said of an option is said of what it has
+pub of_some : {X : Type 0} (P : X → Type 0) (o : Option X) (x : X) → IfSome o P → o ≡ Some x → P x
+of_some P o x h e = subst (λ r. IfSome r P) e h
+
+-- a list made over a range has at each index what is made of it
+pub ranged_at : {Y : Type 0} (f : ℕ → Y) (a n p : ℕ) (v : Y) → slice_get (map f (range_with_len a n)) p ≡ Some v → v ≡ f (a + p)
+ranged_at f a zero p v e = cc
+ranged_at f a (suc n) zero v e = sym (same_Some (f a) v e) ∙ ap f (omega arith)
+ranged_at f a (suc n) (suc p) v e = ranged_at f (a + 1) n p v e ∙ ap f (omega arith)
+
+-- each of the same
+pub all_same : {X : Type 0} (P : X → Type 0) (n : ℕ) (x : X) → P x → AllByRecursion P (replicate n x)
+all_same P zero x h = tt
+all_same P (suc n) x h = (h, all_same P n x h)
