@@ -1,6 +1,6 @@
 pub mod Following
 pub mod Kept
-mod PacketSteps
+pub mod PacketSteps
 mod Rows
 mod Scenes
 mod TurnSteps

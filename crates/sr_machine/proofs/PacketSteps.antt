@@ -120,7 +120,7 @@ module _ (f : Flight) where
   leg_lowers l (Judged v next) x = last_lowers l v next x
 
 -- a stage has fewer steps left than the one before it, and an idle pipe has none
-stage_lowers : (l : LayoutView) (stage : Stage) (x : ℕ) → stage_left (stage_after l stage x) ≤ stage_left stage - 1
+pub stage_lowers : (l : LayoutView) (stage : Stage) (x : ℕ) → stage_left (stage_after l stage x) ≤ stage_left stage - 1
 stage_lowers l Idle x = omega arith
 stage_lowers l (Enter packet) x = omega arith
 stage_lowers l (Note packet entered) x = omega arith
@@ -128,7 +128,7 @@ stage_lowers l (Vip packet entered) x = omega arith
 stage_lowers l (Fly f leg) x = omega (arith, leg_lowers f l leg x)
 stage_lowers l (Leave f) x = omega arith
 
-none_left : (stage : Stage) → stage_left stage ≤ 0 → stage ≡ Idle
+pub none_left : (stage : Stage) → stage_left stage ≤ 0 → stage ≡ Idle
 none_left Idle h = refl
 none_left (Enter packet) h = absurd (omega (arith, h))
 none_left (Note packet entered) h = absurd (omega (arith, h))

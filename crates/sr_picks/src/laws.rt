@@ -1,0 +1,24 @@
+//! What the definitions mean.
+
+ghost use Rattle.std.specs.Prelude.{◌≡◌, ℕ, List, Some};
+ghost use Rattle.sr_machine.specs.Config.{Config};
+ghost use Rattle.sr_machine.specs.Core.{Core as AState, Reaches};
+ghost use Rattle.sr_machine.specs.Turning.{turned};
+ghost use Rattle.sr_machine.specs.declared.settled.Settled.{Settled as ASettled};
+ghost use Rattle.sr_machine.specs.declared.turn.Turn.{Turn as ATurn};
+ghost use Rattle.sr_picks.specs.Play.{Play, PlaysTo};
+ghost use Rattle.sr_picks.specs.Run.{RunsByPicks};
+ghost use Rattle.sr_picks.specs.Turn.{turn_of};
+ghost use Rattle.sr_rounds.specs.declared.timed.Timed.{Timed as ATimed};
+
+/// A law: a run by picks is a run of the machine, whatever the generator picks; so is each round of it.
+pub fn picks_are_runs()
+    ensures round { (k : Config) (p q : Play) → Reaches k p.state → PlaysTo p q → Reaches k q.state }
+    ensures whole { (k : Config) (seed : ℕ) (packets : List ATimed) (r : ASettled) (t : AState) → RunsByPicks k seed packets r t
+        → Reaches k t }
+{}
+
+/// A law: a turn that ends an act is the machine's turn.
+pub fn turns_are_turns()
+    ensures { (s : AState) (t : ATurn) → (turn_of s).answer ≡ Some t → turned s ≡ Some (t, (turn_of s).state) }
+{}

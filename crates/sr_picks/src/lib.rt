@@ -1,0 +1,13 @@
+//! A run by picks: in each round a generator picks who acts next, a pipe with one step or the controller with one turn, so that a run
+//! of the machine follows from a number and can be had again anywhere.
+//!
+//! | part | `specs/` |
+//! |---|---|
+//! | A turn of the controller, step by step | `Turn` |
+//! | A round: who has ended it, who is picked, what the picked one does | `Play` |
+//! | All rounds of a capture, and the turns after the last | `Run` |
+#![tactic(auto)]
+
+mod laws;
+
+pub use laws::{picks_are_runs, turns_are_turns};
