@@ -3,5 +3,7 @@ pub mod Books
 pub mod Keeping
 pub mod Lists
 pub mod Pipes
+pub mod Plain
 pub mod Printing
 pub mod Reading
+pub mod Takes

@@ -17,7 +17,6 @@ use Rattle.sr_base.specs.declared.slot_word.SlotWord.{SlotWord}
 use Rattle.sr_base.specs.declared.vip_word.VipWord.{VipWord}
 use Rattle.sr_hash.specs.Clash.{tells_key}
 use Rattle.sr_inv_facts.specs.InShape.{WordFits}
-use Rattle.sr_inv_facts.specs.InTicks.{same}
 use Rattle.sr_machine.specs.Reads.{cell_says, read_report, read_server, read_vip, report_in, row_says, says, steady, vip_in}
 use Rattle.sr_base.specs.declared.full_word.FullWord.TheVariants as full
 use Rattle.sr_base.specs.declared.slot_word.SlotWord.TheVariants as slot
