@@ -1,13 +1,17 @@
 -- The opening words, pool by pool and member by member.
-use Rattle.std.proofs.Common.{◌≡◌, ℕ, ◌+◌, ◌<◌, ◌≤◌, nat_lt, Bool, true, false, List, [], ◌∷◌, length, replicate, slice_index, get_or, subst, zero, suc, refl, sym, ◌∙◌, ap, arith}
+use Rattle.std.proofs.Common.{◌≡◌, ℕ, ◌+◌, ◌<◌, ◌≤◌, ◌==◌, nat_lt, Bool, true, false, List, [], ◌∷◌, Some, length, replicate, slice_index, get_or, subst, zero, suc, refl, sym, ◌∙◌, ap, arith}
 use Rattle.std.proofs.lemmas.Bool.Decides.{nat_tests}
 use Rattle.std.proofs.lemmas.List.{get_or-replicate, get_or_past, length-replicate}
 use Rattle.sr_base.specs.Layout.{LayoutView}
 use Rattle.sr_base.specs.RowHead.{packed_head}
+use Rattle.std.specs.List.{AllByRecursion}
+use Rattle.sr_base.specs.declared.change.Change.{Change}
+use Rattle.sr_law.specs.Pools.{pool_of, pools_from}
 use Rattle.sr_core.specs.FirstPools.{first_words, listed, with_members}
 use Rattle.sr_core.specs.PlainWords.{ShowsWords}
 use Rattle.sr_machine.specs.Names.{rewritten}
-use Rattle.sr_machine.specs.Opening.{opening_head}
+use Rattle.sr_machine.specs.Config.{Config}
+use Rattle.sr_machine.specs.Opening.{first_pool, opening_head, opening_words}
 use Rattle.sr_machine.specs.declared.name.Name.{Name}
 use Rattle.sr_machine.specs.declared.name.Name.TheVariants.{Tick, Head, Member}
 
@@ -82,3 +86,42 @@ pools_go_on l m k list written f vip e d step shows =
     subst (λ z. ShowsWords z written (first_words l f (vip + 1))) (d ∙ e)
     (subst (λ z. ShowsWords k written (first_words z f (vip + 1))) e
     (step (subst (λ z. ShowsWords z list (first_words z f vip)) (sym e) shows)))
+
+-- a virtual address's pool 1 is one of the first pools
+pub first_fits : (P : List ℕ → Type 0) (n : ℕ) (first : List (List ℕ)) (changes : List Change) (vip : ℕ) (pool : List ℕ)
+    → AllByRecursion P first → pool_of (pools_from n first changes) vip 1 ≡ Some pool → P pool
+first_fits P n [] changes vip pool h e = absurd (cc e)
+first_fits P n (x ∷ xs) changes zero pool h e = let same : x ≡ pool = cc e in subst P same h.0
+first_fits P n (x ∷ xs) changes (suc vip) pool h e = first_fits P (n + 1) xs changes vip pool h.1 e
+
+-- a virtual address without a pool has no words
+pub without_pool : (l : LayoutView) (f : ℕ → List ℕ) (vip : ℕ) → f vip ≡ [] → (name : Name)
+    → first_words l f vip name ≡ first_words l f (vip + 1) name
+without_pool l f vip e (Head at version) = by (at == vip) refl
+  where
+    by : (t : Bool) → (at == vip) ≡ t → first_words l f vip (Head at version) ≡ first_words l f (vip + 1) (Head at version)
+    by true is =
+        let same : at ≡ vip = grind (arith, nat_tests) in
+        let none : opening_head (f at) ≡ 0 = ap (λ i. opening_head (f i)) same ∙ ap opening_head e in
+        grind (arith, nat_tests, none)
+    by false is = grind (arith, nat_tests)
+without_pool l f vip e (Member at version index) = by (at == vip) refl
+  where
+    by : (t : Bool) → (at == vip) ≡ t
+        → first_words l f vip (Member at version index) ≡ first_words l f (vip + 1) (Member at version index)
+    by true is =
+        let same : at ≡ vip = grind (arith, nat_tests) in
+        let none : slice_index (f at) index ≡ 0 = ap (λ i. slice_index (f i) index) same ∙ ap (λ xs. slice_index xs index) e in
+        grind (arith, nat_tests, none)
+    by false is = grind (arith, nat_tests)
+without_pool l f vip e name = refl
+
+-- once all first pools are written these are the opening words
+pub all_pools : (k : Config) (list : List ℕ) → ShowsWords k.layout list (first_words k.layout (first_pool k) k.layout.vips)
+    → ShowsWords k.layout list (opening_words k)
+unfolding opening_words
+all_pools k list shows (Head vip version) h =
+    let within : vip < k.layout.vips = h.0 in shows (Head vip version) h ∙ grind (arith, nat_tests)
+all_pools k list shows (Member vip version index) h =
+    let within : vip < k.layout.vips = h.0.0 in shows (Member vip version index) h ∙ grind (arith, nat_tests)
+all_pools k list shows name h = shows name h

@@ -2,7 +2,7 @@
 use Rattle.std.proofs.Common.{◌≡◌, ℕ, List, Option, None, Some, refl, sym, ◌∙◌, ap, subst, option_map, option_and_then, slice_get, slice_set, Bool, true, false, if◌then◌else◌}
 use Rattle.sr_base.specs.Layout.{LayoutView}
 use Rattle.sr_base.specs.declared.packet.Packet.{Packet}
-use Rattle.sr_core.specs.HeldCore.{HeldCore, Shows, StepsTo, state_of}
+use Rattle.sr_core.specs.HeldCore.{HeldCore, StepsTo, state_of}
 use Rattle.sr_core.specs.HeldPipes.{DoesTo, after_at, entered_at, op_at}
 use Rattle.sr_core.specs.PlainWords.{ShowsWords}
 use Rattle.sr_machine.specs.Core.{enters, made, step_event, stepped, told, with_view}
@@ -49,7 +49,7 @@ module _ (h : HeldCore) (words : Name → ℕ) (shown : ShowsWords h.config.layo
         ap (λ o. option_and_then (stepped (state_of h words) (actor.Pipe p)) (option_map OfPipe o)) is
         ∙ ap (option_map (made (state_of h words) (actor.Pipe p) (OfPipe v))) e
         ∙ ap (λ x. Some (state_of (record h { words = ws; pipes = slice_set h.pipes p (pipe_after h.config.layout v v.stage x) }) (op_words words op)))
-          (sym (makes.answers words shown))
+        (sym (makes.answers words shown))
         ∙ ap (λ ps. Some (state_of (record h { words = ws; pipes = ps }) (op_words words op))) set
 
     -- a pipe makes its step
@@ -71,7 +71,7 @@ module _ (h : HeldCore) (words : Name → ℕ) (shown : ShowsWords h.config.layo
       by : (o : Option PipeView) → entered h.config.layout packet v ≡ o
           → enters (state_of h words) p packet v
           ≡ option_map (λ vs. state_of (record h { pipes = vs }) words)
-            (option_map (λ w. slice_set h.pipes p w) (entered h.config.layout packet v))
+          (option_map (λ w. slice_set h.pipes p w) (entered h.config.layout packet v))
       by None is = ap (option_map (λ w. with_view (state_of h words) (actor.Pipe p) (OfPipe w))) is
           ∙ ap (λ o. option_map (λ vs. state_of (record h { pipes = vs }) words) (option_map (λ w. slice_set h.pipes p w) o)) (sym is)
       by (Some w) is = ap (option_map (λ w. with_view (state_of h words) (actor.Pipe p) (OfPipe w))) is
@@ -94,13 +94,13 @@ module _ (h : HeldCore) (words : Name → ℕ) (shown : ShowsWords h.config.layo
   pub controller_steps : (op : Op) (answer : ℕ) (ws : List ℕ) → Makes h.config.layout op h.words ws answer
       → controller_op h.config h.controller ≡ Some op
       → StepsTo Made (step_event (Step actor.Controller) (state_of h words)) h
-        (record h { words = ws; controller = controller_after h.config h.controller answer })
+      (record h { words = ws; controller = controller_after h.config h.controller answer })
   controller_steps op answer ws makes e =
       let held : HeldCore = record h { words = ws; controller = controller_after h.config h.controller answer } in
       subst (λ o. StepsTo Made o h held)
       (sym (ap (option_map (made (state_of h words) actor.Controller (OfController h.controller))) e
       ∙ ap (λ x. Some (state_of (record h { words = ws; controller = controller_after h.config h.controller x }) (op_words words op)))
-        (sym (makes.answers words shown))))
+      (sym (makes.answers words shown))))
       (op_words words op, makes.shows words shown, refl)
 
   pub no_controller_step : controller_op h.config h.controller ≡ None

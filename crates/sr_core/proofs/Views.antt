@@ -1,12 +1,12 @@
 -- The pipes of a machine as rows of a list.
-use Rattle.std.proofs.Common.{◌≡◌, ℕ, zero, suc, ◌<◌, ◌≤◌, List, [], ◌∷◌, ◌++◌, length, slice_get, slice_set, Option, Some, None, option_and_then, option_map, subst, refl, sym, ◌∙◌, ap, arith, get_or}
+use Rattle.std.proofs.Common.{◌≡◌, ℕ, zero, suc, ◌<◌, ◌≤◌, true, List, [], ◌∷◌, ◌++◌, length, slice_get, slice_set, Option, Some, None, option_and_then, option_map, subst, refl, sym, ◌∙◌, ap, arith, get_or}
 use Rattle.std.proofs.lemmas.List.{map-set}
 use Rattle.std.proofs.lemmas.Option.{slice_get-map, slice_get_past, slice_get_read}
 use Rattle.sr_base.specs.Layout.{LayoutView}
 use Rattle.sr_core.specs.HeldPipe.{HeldPipe}
 use Rattle.sr_base.specs.declared.packet.Packet.{Packet}
-use Rattle.sr_core.specs.HeldPipes.{AreOf, DoesTo, after_at, entered_at, op_at, views_of}
-use Rattle.sr_machine.specs.Pipe.{entered, pipe_after, pipe_op}
+use Rattle.sr_core.specs.HeldPipes.{AreOf, DoesTo, after_at, entered_at, idle_of, is_idle_at, op_at, views_of}
+use Rattle.sr_machine.specs.Pipe.{entered, is_idle, pipe_after, pipe_op}
 use Rattle.sr_machine.specs.declared.op.Op.{Op}
 use Rattle.sr_machine.specs.declared.stepped.Stepped.{Stepped}
 use Rattle.sr_machine.specs.declared.stepped.Stepped.TheVariants.{Made, NotNow, Memory}
@@ -93,3 +93,10 @@ none_enters l hs i packet b =
 pub views_more : (hs : List HeldPipe) (h : HeldPipe) → views_of (hs ++ h ∷ []) ≡ views_of hs ++ h.view ∷ []
 views_more [] h = refl
 views_more (x ∷ xs) h = ap (λ r. x.view ∷ r) (views_more xs h)
+
+pub idle_there : (hs : List HeldPipe) (i : ℕ) (h : HeldPipe) → i < length hs → h ≡ get_or hs i h
+    → is_idle h.view.stage ≡ is_idle_at i (views_of hs)
+idle_there hs i h b e = sym (ap idle_of (view_at_place hs i h b e))
+
+pub idle_past : (hs : List HeldPipe) (i : ℕ) → length hs ≤ i → true ≡ is_idle_at i (views_of hs)
+idle_past hs i b = sym (ap idle_of (view_past hs i b))

@@ -1,17 +1,23 @@
 -- The machine as it is held: its words as a list, and what each actor knows; and which state of the machine that is.
-use Rattle.std.specs.Prelude.{◌≡◌, ℕ, List, Option, None, Some}
+use Rattle.std.specs.Prelude.{◌≡◌, ℕ, ◌<◌, List, length, Option, None, Some}
 use Rattle.sr_core.specs.PlainWords.{ShowsWords}
 use Rattle.sr_law.specs.declared.line.Line.{Line}
 use Rattle.sr_core.specs.HeldPipes.{lines_at}
+use Rattle.sr_core.specs.declared.controlled.Controlled.{Controlled}
+use Rattle.sr_core.specs.declared.controlled.Controlled.TheVariants as told
 use Rattle.sr_machine.specs.Config.{Config}
+use Rattle.sr_machine.specs.Controller.{controller_op}
 use Rattle.sr_machine.specs.Core.{Core}
+use Rattle.sr_machine.specs.Turning.{controlled, turn_of_op}
 use Rattle.sr_machine.specs.declared.actor.Actor.{Actor}
 use Rattle.sr_machine.specs.declared.actor.Actor.TheVariants as actor
 use Rattle.sr_machine.specs.declared.controller_view.ControllerView.{ControllerView}
 use Rattle.sr_machine.specs.declared.name.Name.{Name}
+use Rattle.sr_machine.specs.declared.op.Op.{Op}
 use Rattle.sr_machine.specs.declared.pipe_view.PipeView.{PipeView}
 use Rattle.sr_machine.specs.declared.stepped.Stepped.{Stepped}
 use Rattle.sr_machine.specs.declared.stepped.Stepped.TheVariants.{Made, NotNow, Memory}
+use Rattle.sr_machine.specs.declared.turn.Turn.{Turn}
 
 pub record HeldCore : Type 0 where
   pub config : Config
@@ -40,3 +46,20 @@ StepsTo Memory does old new = new ≡ old
 abbrev pub lines_by : Actor → HeldCore → List Line
 lines_by (actor.Pipe p) h = lines_at p h.pipes
 lines_by actor.Controller h = h.controller.lines
+
+-- the actor is the controller, or a pipe that is there
+abbrev pub IsActorOf : HeldCore → Actor → Type 0
+IsActorOf h (actor.Pipe p) = p < length h.pipes
+IsActorOf h actor.Controller = Unit {0}
+
+-- What a step of the controller answers: the state after it, and what it ended, if it ended an act. What it had no step or no memory
+-- for leaves everything as it was.
+abbrev pub MakesStep : Option Turn → Core → Option Op → HeldCore → Type 0
+MakesStep end s None new = ⊥
+MakesStep end s (Some o) new = (turn_of_op s o ≡ end) × Shows new (controlled s o)
+
+abbrev pub ControlsTo : Controlled → Core → HeldCore → HeldCore → Type 0
+ControlsTo told.Made s old new = MakesStep None s (controller_op s.config s.controller) new
+ControlsTo (told.Ended t) s old new = MakesStep (Some t) s (controller_op s.config s.controller) new
+ControlsTo told.NotNow s old new = (controller_op s.config s.controller ≡ None) × (new ≡ old)
+ControlsTo told.Memory s old new = new ≡ old

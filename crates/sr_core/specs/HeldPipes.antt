@@ -1,10 +1,10 @@
 -- All pipes of a machine as what each of them knows, and what an event does to them.
-use Rattle.std.specs.Prelude.{◌≡◌, ℕ, List, [], ◌∷◌, Option, None, Some, map, option_and_then, option_map, slice_get, slice_set, unwrap_or}
+use Rattle.std.specs.Prelude.{◌≡◌, ℕ, Bool, true, List, [], ◌∷◌, Option, None, Some, map, option_and_then, option_map, slice_get, slice_set, unwrap_or}
 use Rattle.sr_base.specs.Layout.{LayoutView}
 use Rattle.sr_base.specs.declared.packet.Packet.{Packet}
 use Rattle.sr_core.specs.HeldPipe.{HeldPipe}
 use Rattle.sr_law.specs.declared.line.Line.{Line}
-use Rattle.sr_machine.specs.Pipe.{entered, pipe_after, pipe_op}
+use Rattle.sr_machine.specs.Pipe.{entered, is_idle, pipe_after, pipe_op}
 use Rattle.sr_machine.specs.declared.op.Op.{Op}
 use Rattle.sr_machine.specs.declared.pipe_view.PipeView.{PipeView}
 use Rattle.sr_machine.specs.declared.stepped.Stepped.{Stepped}
@@ -45,3 +45,11 @@ DoesTo Memory does old new = new ≡ old
 -- the lines of the pipe of this number
 abbrev pub lines_at : ℕ → List PipeView → List Line
 lines_at p views = unwrap_or (option_map (λ v. v.lines) (slice_get views p)) []
+
+-- the pipe of this number has no packet in hand; nor has one that isn't there
+abbrev pub idle_of : Option PipeView → Bool
+idle_of None = true
+idle_of (Some v) = is_idle v.stage
+
+abbrev pub is_idle_at : ℕ → List PipeView → Bool
+is_idle_at p views = idle_of (slice_get views p)

@@ -12,6 +12,7 @@
 //! | The shared words as a plain list, and those at the beginning | `plain_words` | `PlainWords`, `FirstPools` |
 #![tactic(auto)]
 
+mod controlled;
 pub mod course;
 mod pipe_machine;
 mod pipes;
@@ -20,6 +21,7 @@ pub mod reads;
 pub mod stepping;
 mod track;
 
+pub use controlled::Controlled;
 pub use pipe_machine::{PipeMachine, packet_line};
 pub use pipes::Pipes;
 pub use plain_words::PlainWords;

@@ -1,7 +1,7 @@
 ghost use Rattle.std.specs.Prelude.{◌≡◌, ◌<◌, IfOk, IfSome, IsSome, Some, length, map};
 ghost use Rattle.std.specs.List.{range_with_len};
 ghost use Rattle.sr_base.specs.WordName.{HasWord};
-ghost use Rattle.sr_core.specs.HeldPipes.{AreOf, DoesTo, after_at, entered_at, lines_at, op_at, views_of};
+ghost use Rattle.sr_core.specs.HeldPipes.{AreOf, DoesTo, after_at, entered_at, is_idle_at, lines_at, op_at, views_of};
 ghost use Rattle.sr_machine.specs.Names.{word_name};
 ghost use Rattle.sr_machine.specs.Ops.{op_name};
 ghost use Rattle.sr_machine.specs.Pipe.{entered, fresh_pipe};
@@ -78,6 +78,13 @@ impl Pipes {
         after_at(&self.layout, &mut self.pipes, pipe, answer);
     }
 
+    /// Whether a pipe has no packet in hand; also of one that isn't there.
+    pub fn is_idle(&self, pipe: u8) -> bool
+        ensures { result ≡ is_idle_at pipe self.now.views }
+    {
+        is_idle_in(&self.pipes, pipe)
+    }
+
     /// The lines of a pipe so far.
     pub fn lines(&self, pipe: u8) -> &[Line]
         requires { pipe < length self.now.views }
@@ -98,6 +105,18 @@ fn enter_at(layout: &Layout, pipes: &mut [PipeMachine], pipe: u8, packet: Packet
         enter_on(layout, &mut pipes[pipe as usize], packet)
     } else {
         Stepped::NotNow
+    }
+}
+
+// Whether the pipe of this number has no packet in hand.
+#[tactic(auto, using(crate::proofs::Views::idle_there, crate::proofs::Views::idle_past))]
+fn is_idle_in(pipes: &[PipeMachine], pipe: u8) -> bool
+    ensures { result ≡ is_idle_at pipe (views_of pipes.now) }
+{
+    if (pipe as usize) < pipes.len() {
+        pipes[pipe as usize].is_idle()
+    } else {
+        true
     }
 }
 

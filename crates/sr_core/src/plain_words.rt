@@ -1,14 +1,18 @@
-ghost use Rattle.std.specs.Prelude.{◌≡◌, ℕ, ◌+◌, ◌<◌, IfOk, List, bit_or, length, replicate};
+ghost use Rattle.std.specs.Prelude.{◌≡◌, ℕ, ◌+◌, ◌<◌, IfOk, List, [], bit_or, length, replicate};
 ghost use Rattle.std.specs.List.{AllByRecursion};
-ghost use Rattle.sr_base.specs.Fitting.{IsPoolOf};
+ghost use Rattle.sr_base.specs.Fitting.{FitsLayout, IsPoolOf};
 ghost use Rattle.sr_base.specs.WordName.{HasWord, StoresApart, StoresStand, word_at, words_of};
 ghost use Rattle.sr_machine.specs.Names.{rewritten, word_name};
 ghost use Rattle.sr_machine.specs.Ops.{op_answer, op_name, op_words};
 ghost use Rattle.sr_machine.specs.declared.name.Name.{Name as AName};
+ghost use Rattle.sr_base.specs.declared.change.Change.{Change as AChange};
+ghost use Rattle.sr_law.specs.Pools.{pools_from};
+ghost use Rattle.sr_machine.specs.Opening.{opening_words};
 ghost use Rattle.sr_core.specs.FirstPools.{first_words, listed, with_members};
 ghost use Rattle.sr_core.specs.PlainWords.{ShowsWords};
 
-use sr_base::{Layout, Pool, RowHead, layout_ranges, words_stand_apart};
+use sr_base::{Layout, Pool, RowHead, WordName, layout_ranges, words_stand_apart};
+use sr_law::Pools;
 use sr_machine::{Name, Op};
 use std::alloc::{AllocError, Global};
 use std::marker::Model;
@@ -59,6 +63,27 @@ impl PlainWords {
         Ok(words)
     }
 
+    /// The same of the pools of a machine, of which the first ones are named.
+    pub fn opening_of(
+        alloc: Global,
+        layout: &Layout,
+        pools: &Pools,
+    ) -> Result<PlainWords, AllocError>
+        requires { (first : List (List ℕ)) × (changes : List AChange) × FitsLayout layout.now first changes
+            × (pools.now ≡ pools_from 0 first changes) }
+        ensures layout { IfOk result (λ w. w.layout ≡ layout.now) }
+        ensures words { IfOk result (λ w. ShowsWords layout.now w.words (opening_words (record { layout = layout.now; pools = pools.now; changes = [] }))) }
+    {
+        let mut words = PlainWords::zeros(alloc, layout)?;
+        words.put(Name::Tick, layout.vips() as u64 + 1);
+        for vip in 0..layout.vips() {
+            if let Some(pool) = pools.of(vip, 1) {
+                words.give(vip, pool);
+            }
+        }
+        Ok(words)
+    }
+
     /// The first pool of a virtual address is named by its number 0.
     pub fn give(&mut self, vip: u8, pool: &Pool)
         requires vip { vip < self.old.layout.vips }
@@ -104,6 +129,14 @@ impl PlainWords {
         ensures { result ≡ word_at self.now.layout self.now.words (word_name name) }
     {
         self.words[self.layout.place(name.word())]
+    }
+
+    /// The word of a name of the layout.
+    pub fn at(&self, at: WordName) -> u64
+        requires { HasWord self.now.layout at }
+        ensures { result ≡ word_at self.now.layout self.now.words at }
+    {
+        self.words[self.layout.place(at)]
     }
 
     // The word of a name becomes another one.
