@@ -78,7 +78,8 @@ impl PipeMachine {
 
     /// Its number.
     pub fn number(&self) -> u8
-        ensures { result ≡ self.now.view.number }
+        ensures value { result ≡ self.now.view.number }
+        ensures below { result < self.now.layout.shape.pipes }
     {
         self.number
     }
