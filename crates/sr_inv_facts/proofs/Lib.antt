@@ -7,3 +7,4 @@ pub mod Plain
 pub mod Printing
 pub mod Reading
 pub mod Takes
+pub mod Taking

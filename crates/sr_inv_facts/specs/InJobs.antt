@@ -8,6 +8,7 @@ use Rattle.sr_base.specs.Place.{same_place}
 use Rattle.sr_base.specs.declared.place.Place.{Place}
 use Rattle.sr_base.specs.declared.place.Place.TheVariants.{Row}
 use Rattle.sr_base.specs.declared.shape.Shape.{Shape}
+use Rattle.sr_base.specs.declared.vip_word.VipWord.{VipWord}
 use Rattle.sr_hash.specs.Uses.{is_place_of}
 use Rattle.sr_inv_facts.specs.Doing.{OnLive, OnPut}
 use Rattle.sr_law.specs.Taken.{taken}
@@ -25,7 +26,7 @@ use Rattle.sr_machine.specs.declared.put.Put.{Put}
 use Rattle.sr_machine.specs.declared.reply.Reply.{Reply}
 use Rattle.sr_machine.specs.declared.wait.Wait.{Wait}
 use Rattle.sr_machine.specs.declared.why.Why.{Why}
-use Rattle.sr_shadow.specs.Book.{HeldOnce, entry_for, holder_entry, is_registered}
+use Rattle.sr_shadow.specs.Book.{HeldOnce, entry_for, is_registered, holder_of}
 use Rattle.sr_shadow.specs.Entry.{may_retire, is_slot, is_placed}
 use Rattle.sr_shadow.specs.Plan.{key_rows}
 use Rattle.sr_shadow.specs.declared.entry.Entry.{Entry}
@@ -58,6 +59,17 @@ leaving j key = None
 
 -- ---- what a job does
 
+-- what a job's fact is said of
+pub record Seen : Type 0 where
+  pub entries : List Entry
+  pub held : List HeldOpener
+  pub vips : List VipWord
+  pub named : List (List ℕ)
+  pub down : List ℕ
+
+abbrev pub seen : ControllerView → Seen
+seen c = record { entries = c.book.entries; held = c.held; vips = c.vips; named = c.named; down = c.down }
+
 -- this held opener is the first
 abbrev pub IsFirst : HeldOpener → List HeldOpener → Type 0
 IsFirst h held = (rest : List HeldOpener) × (held ≡ h ∷ rest)
@@ -80,7 +92,7 @@ AimHolds entries held p (aim.Move from planned) =
 -- a put's place is one of its key, and held by nobody
 pub record PutHolds (shape : Shape) (entries : List Entry) (held : List HeldOpener) (p : Put) : Type 0 where
   pub own : is_place_of shape p.key p.place ≡ true
-  pub free : holder_entry p.place entries ≡ None
+  pub free : holder_of p.place entries ≡ None
   pub aim : AimHolds entries held p p.aim
 
 -- what a live put was for
@@ -97,36 +109,36 @@ pub record LiveHolds (entries : List Entry) (held : List HeldOpener) (p : Put) :
 -- nobody holds a place of this key
 pub record IsLeft (shape : Shape) (entries : List Entry) (key : KeyView) (place : Place) : Type 0 where
   pub own : is_place_of shape key place ≡ true
-  pub free : holder_entry place entries ≡ None
+  pub free : holder_of place entries ≡ None
 
 -- a key that isn't registered would go to a server that is down: this is the answer to the first held opener, which is its
-pub record IsDead (k : Config) (c : ControllerView) (r : Reply) (version : ℕ) : Type 0 where
+pub record IsDead (k : Config) (c : Seen) (r : Reply) (version : ℕ) : Type 0 where
   pub first : IsFirst r.held c.held
-  pub unregistered : is_registered r.held.key c.book.entries ≡ false
+  pub unregistered : is_registered r.held.key c.entries ≡ false
   pub next : version ≡ learned c.vips r.held.key.vip
   pub down : is_down c.down (server_for k c.named r.held.key version) ≡ true
 
 -- each row of the key's group is held
 abbrev pub IsGroupHeld : Shape → List Entry → KeyView → Type 0
-IsGroupHeld shape entries key = AllByRecursion (λ row. is_some (holder_entry (Row row) entries) ≡ true) (key_rows shape key)
+IsGroupHeld shape entries key = AllByRecursion (λ row. is_some (holder_of (Row row) entries) ≡ true) (key_rows shape key)
 
 -- The answer to the first held opener: a registered key's names its version; one that isn't registered finds no place, or its
 -- server is down.
-abbrev pub AnswerNames : Config → ControllerView → Reply → Option Entry → Option ℕ → Type 0
+abbrev pub AnswerNames : Config → Seen → Reply → Option Entry → Option ℕ → Type 0
 AnswerNames k c r (Some e) version = version ≡ Some e.version
-AnswerNames k c r None None = IsGroupHeld k.layout.shape c.book.entries r.held.key
+AnswerNames k c r None None = IsGroupHeld k.layout.shape c.entries r.held.key
 AnswerNames k c r None (Some version) = IsDead k c r version
 
-pub record AnswerHolds (k : Config) (c : ControllerView) (r : Reply) : Type 0 where
+pub record AnswerHolds (k : Config) (c : Seen) (r : Reply) : Type 0 where
   pub first : IsFirst r.held c.held
-  pub names : AnswerNames k c r (entry_for r.held.key c.book.entries) r.version
+  pub names : AnswerNames k c r (entry_for r.held.key c.entries) r.version
 
 -- why a place was emptied
-abbrev pub ClearedHolds : Config → ControllerView → KeyView → Why → Type 0
+abbrev pub ClearedHolds : Config → Seen → KeyView → Why → Type 0
 ClearedHolds k c key (why.Withdrawn None) = Unit {0}
 ClearedHolds k c key (why.Withdrawn (Some r)) = IfSome r.version (λ version. IsDead k c r version) × (is_some r.version ≡ true)
 ClearedHolds k c key why.Source = Unit {0}
-ClearedHolds k c key (why.Retired version) = is_registered key c.book.entries ≡ false
+ClearedHolds k c key (why.Retired version) = is_registered key c.entries ≡ false
 
 -- an entry that is retired stands there, and may be
 pub record RetiredHolds (k : Config) (entries : List Entry) (key : KeyView) (place : Place) (version : ℕ) : Type 0 where
@@ -144,20 +156,20 @@ JustDowned (line.TakenDown out down ∷ before) server = down ≡ server
 JustDowned (l ∷ before) server = ⊥
 
 -- what each job stands on
-abbrev pub JobHolds : Config → ControllerView → List Line → Job → Type 0
+abbrev pub JobHolds : Config → Seen → List Line → Job → Type 0
 JobHolds k c lines (job.Store (store.Down server)) = (is_down c.down server ≡ true) × JustDowned lines server
 JobHolds k c lines (job.Store (store.Empty key place why.Source)) =
-    (e : Entry) × (entry_for key c.book.entries ≡ Some e) × (is_placed e ≡ true) × (e.also ≡ Some place)
+    (e : Entry) × (entry_for key c.entries ≡ Some e) × (is_placed e ≡ true) × (e.also ≡ Some place)
 JobHolds k c lines (job.Store (store.Empty key place (why.Retired version))) =
-    IsLeft k.layout.shape c.book.entries key place × (is_registered key c.book.entries ≡ false)
+    IsLeft k.layout.shape c.entries key place × (is_registered key c.entries ≡ false)
 JobHolds k c lines (job.Draw (draw.Cleared key place w)) =
-    IsLeft k.layout.shape c.book.entries key place × ClearedHolds k c key w
-JobHolds k c lines (job.Draw (draw.Retired key place version)) = RetiredHolds k c.book.entries key place version
+    IsLeft k.layout.shape c.entries key place × ClearedHolds k c key w
+JobHolds k c lines (job.Draw (draw.Retired key place version)) = RetiredHolds k c.entries key place version
 JobHolds k c lines (job.Draw (draw.Answer r)) = AnswerHolds k c r
 JobHolds k c lines (job.Hit from ms key place number) =
-    (e : Entry) × (entry_for key c.book.entries ≡ Some e) × (e.place ≡ Some place) × (e.taken ≡ number)
+    (e : Entry) × (entry_for key c.entries ≡ Some e) × (e.place ≡ Some place) × (e.taken ≡ number)
 JobHolds k c lines j =
-    OnPut j (PutHolds k.layout.shape c.book.entries c.held) × OnLive j (LiveHolds c.book.entries c.held)
+    OnPut j (PutHolds k.layout.shape c.entries c.held) × OnLive j (LiveHolds c.entries c.held)
 
 -- ---- who has a place by the lines
 
@@ -186,16 +198,16 @@ job_taking j place = None
 
 -- who has a place in the book
 abbrev pub book_taking : List Entry → Place → Option Taking
-book_taking entries place = option_map (λ e. record { key = e.key; placed = true }) (holder_entry place entries)
+book_taking entries place = option_map (λ key. record { key = key; placed = true }) (holder_of place entries)
 
 -- ---- all of it
 
-pub record JobsHold (k : Config) (c : ControllerView) (lines : List Line) : Type 0 where
-  pub once : HeldOnce c.book.entries
-  pub also : AllByRecursion (λ e. e.also ≡ leaving c.job e.key) c.book.entries
-  pub job : JobHolds k c lines c.job
-  pub places : (place : Place) → taken lines place ≡ option_or (job_taking c.job place) (book_taking c.book.entries place)
-  pub down : (server : ℕ) → told_down lines server ≡ is_down c.down server
+pub record JobsHold (k : Config) (c : Seen) (j : Job) (lines : List Line) : Type 0 where
+  pub once : HeldOnce c.entries
+  pub also : AllByRecursion (λ e. e.also ≡ leaving j e.key) c.entries
+  pub stands : JobHolds k c lines j
+  pub places : (place : Place) → taken lines place ≡ option_or (job_taking j place) (book_taking c.entries place)
+  pub downs : (server : ℕ) → told_down lines server ≡ is_down c.down server
 
 pub record InJobs (s : Core) : Type 0 where
-  pub holds : JobsHold s.config s.controller (printed s)
+  pub holds : JobsHold s.config (seen s.controller) s.controller.job (printed s)

@@ -9,7 +9,7 @@ use Rattle.sr_inv_facts.proofs.Beginning.{begun_by}
 use Rattle.sr_inv_facts.proofs.Lists.{end_rest, of_some}
 use Rattle.sr_inv_facts.proofs.Pipes.{each_set}
 use Rattle.sr_inv_facts.specs.Fitted.{IsPacket}
-use Rattle.sr_inv_facts.specs.InJobs.{JobHolds}
+use Rattle.sr_inv_facts.specs.InJobs.{JobHolds, seen}
 use Rattle.sr_inv_facts.specs.InShape.{ControllerFits, InShape, JobFits, StageFits, downing, servers_of}
 use Rattle.sr_inv_facts.specs.InUpdate.{JobAt, UpdateFits}
 use Rattle.sr_inv_facts.specs.Invariant.{Invariant}
@@ -66,7 +66,7 @@ needed : (s : Core) (i : Invariant s) (j : Job) → s.controller.job ≡ j
 needed s i (job.Store (store.Judge p)) q =
     let c = s.controller in
     put_fits s.config i.shape.config.layout c i.shape.book i.shape.controller p
-    (subst (JobHolds s.config c (printed s)) q i.jobs.holds.job).0
+    (subst (JobHolds s.config (seen c) (printed s)) q i.jobs.holds.stands).0
 needed s i (job.Store (store.Vip u p)) q = at p (subst (JobAt s.config s.controller.update s.controller.vips) q i.update.update.phase)
   where
     at : (p : Phase) → JobAt s.config s.controller.update s.controller.vips (job.Store (store.Vip u p)) → UpdateFits s.config u
