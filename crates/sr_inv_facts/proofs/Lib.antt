@@ -1,7 +1,9 @@
 pub mod Beginning
 pub mod Books
+pub mod Entries
 pub mod Keeping
 pub mod Lists
+pub mod OpeningLines
 pub mod Pipes
 pub mod Plain
 pub mod Printing

@@ -143,7 +143,7 @@ abbrev pub prints : ℕ → Stage → ℕ → List Line
 prints number (Fly f (Judged v last.Out)) x = packet_line number f v x ∷ []
 prints number at x = []
 
-pipe_silent : (s : Core) (p : ℕ) (v w : PipeView) → slice_get s.pipes p ≡ Some v → w.lines ≡ v.lines → (words : Name → ℕ)
+pub pipe_silent : (s : Core) (p : ℕ) (v w : PipeView) → slice_get s.pipes p ≡ Some v → w.lines ≡ v.lines → (words : Name → ℕ)
     → printed (record s { words = words; pipes = slice_set s.pipes p w }) ≡ printed s
 pipe_silent s p v w q e words = ap (λ xs. newest_first (xs ++ s.controller.lines)) (lines_kept s.pipes p v w q e)
 
