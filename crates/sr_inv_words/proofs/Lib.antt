@@ -1,0 +1,13 @@
+pub mod JobTicks
+pub mod Marking
+pub mod OtherJobs
+pub mod PipeTicks
+pub mod PipeWords
+pub mod PoolWords
+pub mod Sums
+pub mod TableJobs
+pub mod Tables
+pub mod VersionJobs
+pub mod Windows
+pub mod WordsKept
+pub mod WordsOpen

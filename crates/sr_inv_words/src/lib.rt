@@ -1,0 +1,6 @@
+//! Every event keeps what each shared word is, and that each tick was drawn once: the families `InWords` and `InTicks` of the invariant.
+#![tactic(auto)]
+
+mod laws;
+
+pub use laws::words_are_kept;
