@@ -13,7 +13,7 @@ use Rattle.sr_base.specs.declared.vip_word.Phase.TheVariants.{Steady, Recording,
 use Rattle.sr_base.specs.declared.vip_word.VipWord.{VipWord}
 use Rattle.sr_inv_facts.proofs.Lists.{of_some}
 use Rattle.sr_inv_facts.proofs.Plain.{OfPlain, plain_cleared, plain_passed, plain_phase, plain_vip, plain_waited}
-use Rattle.sr_inv_facts.specs.InJobs.{JobHolds}
+use Rattle.sr_inv_facts.specs.InJobs.{JobHolds, seen}
 use Rattle.sr_inv_facts.specs.InShape.{servers_of, downing}
 use Rattle.sr_inv_facts.specs.InUpdate.{AtPhase, JobAt, UpdateFits}
 use Rattle.sr_inv_facts.specs.InWords.{ClearedBelow, Written, is_downing, IsCleared, MembersWritten, down_word}
@@ -322,7 +322,7 @@ module _ (s : Core) (i : Invariant s) where
           → (if t then 1 else s.words (name.Down n)) ≡ part (is_down s.controller.down n && true)
       at n true q =
           let here : server ≡ n = grind (arith, nat_tests) in
-          let told = subst (λ m. is_down s.controller.down m ≡ true) here (subst (JobHolds s.config s.controller (printed s)) e i.jobs.holds.job).0 in
+          let told = subst (λ m. is_down s.controller.down m ≡ true) here (subst (JobHolds s.config (seen s.controller) (printed s)) e i.jobs.holds.stands).0 in
           by (is_down s.controller.down n) told
         where
           by : (a : Bool) → a ≡ true → part true ≡ part (a && true)

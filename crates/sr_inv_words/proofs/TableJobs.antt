@@ -10,7 +10,7 @@ use Rattle.sr_base.specs.declared.vip_word.Phase.{Phase}
 use Rattle.sr_base.specs.declared.vip_word.Phase.TheVariants.{Steady, Recording, Holding, Transit}
 use Rattle.sr_base.specs.declared.vip_word.VipWord.{VipWord}
 use Rattle.sr_inv_facts.proofs.Lists.{all_back, all_more, all_then}
-use Rattle.sr_inv_facts.specs.InJobs.{JobHolds, PutHolds, RetiredHolds, leaving, IsLeft}
+use Rattle.sr_inv_facts.specs.InJobs.{JobHolds, PutHolds, RetiredHolds, leaving, IsLeft, seen}
 use Rattle.sr_inv_facts.specs.InShape.{JobFits}
 use Rattle.sr_inv_facts.specs.InWords.{held_word, job_word, judged_place, table_word}
 use Rattle.sr_inv_facts.specs.Invariant.{Invariant}
@@ -173,8 +173,8 @@ module _ (s : Core) (i : Invariant s) where
   before : (j : Job) → s.controller.job ≡ j → (place : Place) → s.words (name.Entry place) ≡ table_word s.config.layout s.controller.book.entries j place
   before j e place = i.words.others.table place ∙ ap (λ a. table_word s.config.layout s.controller.book.entries a place) e
 
-  holds : (j : Job) → s.controller.job ≡ j → JobHolds s.config s.controller (printed s) j
-  holds j e = subst (JobHolds s.config s.controller (printed s)) e i.jobs.holds.job
+  holds : (j : Job) → s.controller.job ≡ j → JobHolds s.config (seen s.controller) (printed s) j
+  holds j e = subst (JobHolds s.config (seen s.controller) (printed s)) e i.jobs.holds.stands
 
   leaves : (j : Job) → s.controller.job ≡ j → AllByRecursion (λ e. e.also ≡ leaving j e.key) s.controller.book.entries
   leaves j e = subst (λ m. AllByRecursion (λ n. n.also ≡ leaving m n.key) s.controller.book.entries) e i.jobs.holds.also
@@ -194,7 +194,7 @@ module _ (s : Core) (i : Invariant s) where
           → (if b then word else s.words (name.Entry place)) ≡ table_word s.config.layout s.controller.book.entries next place
       at place true q =
           let here : p.place ≡ place = same_place-true p.place place q in
-          let none = subst (λ a. holder_entry a s.controller.book.entries ≡ None) here (holds (job.Store (store.Reserved p)) e).0.free in
+          let none = subst (λ a. holder_entry a s.controller.book.entries ≡ None) here (nobody p.place s.controller.book.entries (holds (job.Store (store.Reserved p)) e).0.free) in
           sym (unheld s.config.layout s.controller.book.entries next place none ∙ chosen p.place place true q word 0)
       at place false q =
           before (job.Store (store.Reserved p)) e place
@@ -229,7 +229,7 @@ module _ (s : Core) (i : Invariant s) where
       withdrawn : (place : Place) (t : Bool) → same_place p.place place ≡ t
           → (if t then 0 else s.words (name.Entry place)) ≡ table_word l es (job.Draw (draw.Cleared p.key p.place (why.Withdrawn reply))) place
       withdrawn place true q =
-          sym (unheld l es (job.Draw (draw.Cleared p.key p.place (why.Withdrawn reply))) place (subst (λ a. holder_entry a es ≡ None) (same_place-true p.place place q) put.free))
+          sym (unheld l es (job.Draw (draw.Cleared p.key p.place (why.Withdrawn reply))) place (subst (λ a. holder_entry a es ≡ None) (same_place-true p.place place q) (nobody p.place es put.free)))
       withdrawn place false q = old place q
 
       alone : AllByRecursion (λ e. e.also ≡ None) book.entries
@@ -246,7 +246,7 @@ module _ (s : Core) (i : Invariant s) where
       live place true q =
           let t = taken_entry s.controller.vips p.key s.controller.book in
           let here : p.place ≡ place = same_place-true p.place place q in
-          let there = settled_here p.place p.key book.entries t.entry (taken_holder p.place p.key version s.controller.book ∙ put.free) t.found in
+          let there = settled_here p.place p.key book.entries t.entry (taken_holder p.place p.key version s.controller.book ∙ nobody p.place es put.free) t.found in
           sym (subst (λ a. table_word l (with_settled p.key p.place book).entries (job.Draw (draw.Placed p)) a ≡ live_word l p.place p.key version) here
           (ap (λ o. unwrap_or (option_map (λ e. live_word l p.place e.key e.version) o) 0) there
           ∙ (ap (λ key. live_word l p.place key t.entry.version) t.own ∙ ap (live_word l p.place p.key) t.with_version)))
@@ -402,7 +402,7 @@ module _ (s : Core) (i : Invariant s) where
           → (if b then 0 else s.words (name.Entry place)) ≡ table_word l (with_changed left_other key es) next place
       by place true q =
           sym (unheld l (with_changed left_other key es) next place
-          (ap (holder_entry place) same ∙ subst (λ a. holder_entry a es ≡ None) (same_place-true at place q) h.0.free))
+          (ap (holder_entry place) same ∙ subst (λ a. holder_entry a es ≡ None) (same_place-true at place q) (nobody at es h.0.free)))
       by place false q =
           before here e place
           ∙ sym (alike l es (with_changed left_other key es) here next place (ap (held_word l place) same) (sym (chosen at place false q (live_word l at key version) 0)))
