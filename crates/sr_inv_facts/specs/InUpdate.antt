@@ -272,3 +272,7 @@ pub record InUpdate (s : Core) : Type 0 where
   pub update : UpdateHolds s.config s.controller.update s.controller.vips s.controller.job
   pub versions : VersionsHold s.config (printed s) s.controller
   pub changes : ChangesHold s.config (printed s) s.controller
+
+-- its first part alone: the update and its phase
+abbrev pub PhasesHold : Core → Type 0
+PhasesHold s = UpdateHolds s.config s.controller.update s.controller.vips s.controller.job

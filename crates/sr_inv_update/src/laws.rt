@@ -1,0 +1,12 @@
+//! What every event keeps.
+
+ghost use Rattle.sr_inv_facts.specs.InUpdate.{PhasesHold};
+ghost use Rattle.sr_inv_facts.specs.Laws.{BegunKeeps, EventsKeep, OpensWith};
+
+/// A law: an update gives a pool that there is to a virtual address of the layout by another version than the one that it replaces, and each of its
+/// steps belongs to a phase, which the word of the virtual address tells; so it is at the opening, and so it stays with every event.
+pub fn phases_are_kept()
+    ensures opening { OpensWith PhasesHold }
+    ensures begun { BegunKeeps PhasesHold }
+    ensures event { EventsKeep PhasesHold }
+{}
