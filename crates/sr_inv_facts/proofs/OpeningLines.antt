@@ -12,7 +12,7 @@ fresh_lines : (a n : ℕ) → pipe_lines (map fresh_pipe (range_with_len a n)) �
 fresh_lines a zero = refl
 fresh_lines a (suc n) = fresh_lines (a + 1) n
 
-given_all : (P : Line → Type 0) → ((vip : ℕ) → P (opening_line vip)) → (a n : ℕ)
+pub given_all : (P : Line → Type 0) → ((vip : ℕ) → P (opening_line vip)) → (a n : ℕ)
     → AllByRecursion P (map opening_line (range_with_len a n))
 given_all P h a zero = tt
 given_all P h a (suc n) = (h a, given_all P h (a + 1) n)

@@ -10,7 +10,6 @@ use Rattle.sr_base.specs.declared.ring_word.RingKind.TheVariants.{Learn, Punt, C
 use Rattle.sr_base.specs.declared.ring_word.RingWord.{RingWord}
 use Rattle.sr_inv_facts.proofs.Reading.{report_fits}
 use Rattle.sr_inv_facts.specs.Readings.{IfLearn, OnReport}
-use Rattle.sr_law.specs.Taken.{taken}
 use Rattle.sr_machine.specs.Config.{Config}
 use Rattle.sr_machine.specs.Deciding.{ring_count}
 use Rattle.sr_machine.specs.Reads.{read_report}

@@ -1,12 +1,16 @@
+pub mod Counted
 pub mod JobTicks
 pub mod Marking
 pub mod OtherJobs
 pub mod PipeTicks
 pub mod PipeWords
 pub mod PoolWords
+pub mod Rising
 pub mod Sums
 pub mod TableJobs
 pub mod Tables
+pub mod TicksKept
+pub mod TicksOpen
 pub mod VersionJobs
 pub mod Windows
 pub mod WordsKept

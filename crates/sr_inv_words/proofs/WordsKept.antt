@@ -102,7 +102,7 @@ begins_kept s f = record {
 
 -- ---- a packet enters
 
-idle : (a : Stage) → is_idle a ≡ true → a ≡ Idle
+pub idle : (a : Stage) → is_idle a ≡ true → a ≡ Idle
 idle Idle e = refl
 idle a e = cc
 

@@ -1,5 +1,6 @@
 //! What every event keeps.
 
+ghost use Rattle.sr_inv_facts.specs.InTicks.{InTicks};
 ghost use Rattle.sr_inv_facts.specs.InWords.{InWords};
 ghost use Rattle.sr_inv_facts.specs.Laws.{BegunKeeps, EventsKeep, OpensWith};
 
@@ -8,4 +9,11 @@ pub fn words_are_kept()
     ensures opening { OpensWith InWords }
     ensures begun { BegunKeeps InWords }
     ensures event { EventsKeep InWords }
+{}
+
+/// A law: each tick was drawn once and none wraps, at the opening and after every event; the lines of each view rise.
+pub fn ticks_are_kept()
+    ensures opening { OpensWith InTicks }
+    ensures begun { BegunKeeps InTicks }
+    ensures event { EventsKeep InTicks }
 {}

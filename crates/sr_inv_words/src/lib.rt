@@ -3,4 +3,4 @@
 
 mod laws;
 
-pub use laws::words_are_kept;
+pub use laws::{ticks_are_kept, words_are_kept};
