@@ -1,0 +1,9 @@
+pub mod Lists
+pub mod Books
+pub mod Rows
+pub mod Plans
+pub mod Pools
+pub mod Begun
+pub mod Opening
+pub mod Sweeps
+pub mod Takes

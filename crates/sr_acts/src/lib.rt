@@ -1,0 +1,41 @@
+//! The controller of `sr_machine` as code: its next step, and what it knows after each answer, for whoever has words to make the
+//! steps on. Its book is a plain list of entries and its plan the plain one, so its speed is that of a model.
+//!
+//! | part | source files | `specs/` |
+//! |---|---|---|
+//! | What a machine is made for | `machine_config` | `Config` |
+//! | The book: entries, what becomes of them, what is asked of them | `plain_book`, `entry_change`, `asking` | `HeldBook`, `Changes` |
+//! | Versions: their states, the pools that they name, the words of virtual addresses | `versions`, `named_row` | `Versions` |
+//! | Queues: held openers, servers to be taken down, lines | `held_openers`, `outages`, `written` | `Openers`, `HeldLines` |
+//! | The controller: it is told, begins, makes a step | `controller_machine` | `HeldController` |
+//! | What it begins, and what its jobs name | `starting`, `beginning` | `Starts`, `Fits` |
+//! | Which word its step is made on, and what is stored | `acting`, `deciding`, `words` | |
+//! | What it knows after a tick, a store, a wait and a taken word | `drawing`, `storing`, `waiting`, `taking` | |
+#![tactic(auto)]
+
+mod acting;
+mod asking;
+mod beginning;
+mod controller_machine;
+mod deciding;
+mod drawing;
+mod entry_change;
+mod held_openers;
+mod machine_config;
+mod named_row;
+mod outages;
+mod plain_book;
+mod starting;
+mod storing;
+mod taking;
+mod versions;
+mod waiting;
+mod words;
+mod written;
+
+pub use controller_machine::ControllerMachine;
+pub use held_openers::HeldOpeners;
+pub use machine_config::MachineConfig;
+pub use outages::Outages;
+pub use plain_book::PlainBook;
+pub use versions::Versions;
