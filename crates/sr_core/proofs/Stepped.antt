@@ -2,10 +2,14 @@
 use Rattle.std.proofs.Common.{◌≡◌, ℕ, List, Option, None, Some, refl, sym, ◌∙◌, ap, subst, option_map, option_and_then, slice_get, slice_set, Bool, true, false, if◌then◌else◌}
 use Rattle.sr_base.specs.Layout.{LayoutView}
 use Rattle.sr_base.specs.declared.packet.Packet.{Packet}
-use Rattle.sr_core.specs.HeldCore.{HeldCore, StepsTo, state_of}
+use Rattle.sr_core.specs.HeldCore.{HeldCore, MakesStep, Shows, StepsTo, state_of}
 use Rattle.sr_core.specs.HeldPipes.{DoesTo, after_at, entered_at, op_at}
 use Rattle.sr_core.specs.PlainWords.{ShowsWords}
-use Rattle.sr_machine.specs.Core.{enters, made, step_event, stepped, told, with_view}
+use Rattle.sr_machine.specs.Core.{Core, enters, made, opening, step_event, stepped, told, with_view}
+use Rattle.sr_law.specs.Pools.{VipPools}
+use Rattle.sr_machine.specs.Config.{Config}
+use Rattle.sr_machine.specs.Opening.{opening_controller, opening_pipes, opening_words}
+use Rattle.sr_machine.specs.declared.turn.Turn.{Turn}
 use Rattle.sr_machine.specs.Controller.{controller_after, controller_op}
 use Rattle.sr_machine.specs.Ops.{op_answer, op_name, op_words}
 use Rattle.sr_machine.specs.Pipe.{entered, pipe_after, pipe_op}
@@ -118,3 +122,27 @@ module _ (h : HeldCore) (words : Name → ℕ) (shown : ShowsWords h.config.layo
   controller_told does false new e same =
       subst (λ o. StepsTo NotNow (told (state_of h words) o) h (record h { controller = new })) (sym e)
       (ap (λ c. record h { controller = c }) (same refl))
+
+-- a step of the controller, whatever it ends
+pub controlled_steps : (s : Core) (end : Option Turn) (o : Option Op) (old new : HeldCore)
+    → controller_op s.config s.controller ≡ o → MakesStep end s o new → StepsTo Made (step_event (Step actor.Controller) s) old new
+controlled_steps s end None old new is makes = absurd makes
+controlled_steps s end (Some o) old new is makes =
+    subst (λ t. StepsTo Made t old new) (sym (ap (option_map (made s actor.Controller (OfController s.controller))) is)) makes.1
+
+-- the machine at the beginning
+pub opened : (k : Config) (h : HeldCore) → h.config ≡ k → ShowsWords k.layout h.words (opening_words k) → h.pipes ≡ opening_pipes k
+    → h.controller ≡ opening_controller k → Shows h (opening k)
+opened k h config words pipes controller = (
+  opening_words k,
+  subst (λ c. ShowsWords c.layout h.words (opening_words k)) (sym config) words,
+  ap (λ c. record { config = c; words = opening_words k; pipes = opening_pipes k; controller = opening_controller k }) (sym config)
+      ∙ ap (λ ps. record { config = h.config; words = opening_words k; pipes = ps; controller = opening_controller k }) (sym pipes)
+      ∙ ap (λ c. record { config = h.config; words = opening_words k; pipes = h.pipes; controller = c }) (sym controller),
+)
+
+pub opening_shown : (k : Config) (l : LayoutView) (pools : List VipPools) (ws : List ℕ) → l ≡ k.layout → pools ≡ k.pools
+    → ShowsWords l ws (opening_words (record { layout = l; pools = pools; changes = k.changes })) → ShowsWords k.layout ws (opening_words k)
+opening_shown k l pools ws at named shown =
+    subst (λ ps. ShowsWords k.layout ws (opening_words (record { layout = k.layout; pools = ps; changes = k.changes }))) named
+    (subst (λ m. ShowsWords m ws (opening_words (record { layout = m; pools = pools; changes = k.changes }))) at shown)

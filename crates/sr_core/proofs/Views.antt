@@ -1,5 +1,6 @@
 -- The pipes of a machine as rows of a list.
-use Rattle.std.proofs.Common.{◌≡◌, ℕ, zero, suc, ◌<◌, ◌≤◌, true, List, [], ◌∷◌, ◌++◌, length, slice_get, slice_set, Option, Some, None, option_and_then, option_map, subst, refl, sym, ◌∙◌, ap, arith, get_or}
+use Rattle.std.proofs.Common.{◌≡◌, ℕ, zero, suc, ◌<◌, ◌≤◌, ◌&&◌, true, List, [], ◌∷◌, ◌++◌, length, slice_get, slice_set, Option, Some, None, option_and_then, option_map, subst, refl, sym, ◌∙◌, ap, arith, get_or}
+use Rattle.std.specs.List.{list_all}
 use Rattle.std.proofs.lemmas.List.{map-set}
 use Rattle.std.proofs.lemmas.Option.{slice_get-map, slice_get_past, slice_get_read}
 use Rattle.sr_base.specs.Layout.{LayoutView}
@@ -100,3 +101,7 @@ idle_there hs i h b e = sym (ap idle_of (view_at_place hs i h b e))
 
 pub idle_past : (hs : List HeldPipe) (i : ℕ) → length hs ≤ i → true ≡ is_idle_at i (views_of hs)
 idle_past hs i b = sym (ap idle_of (view_past hs i b))
+
+pub all_views : (hs : List HeldPipe) → list_all (λ h. is_idle h.view.stage) hs ≡ list_all (λ v. is_idle v.stage) (views_of hs)
+all_views [] = refl
+all_views (h ∷ hs) = ap (λ b. is_idle h.view.stage && b) (all_views hs)

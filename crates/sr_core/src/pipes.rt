@@ -1,10 +1,10 @@
 ghost use Rattle.std.specs.Prelude.{◌≡◌, ◌<◌, IfOk, IfSome, IsSome, Some, length, map};
-ghost use Rattle.std.specs.List.{range_with_len};
+ghost use Rattle.std.specs.List.{list_all, range_with_len};
 ghost use Rattle.sr_base.specs.WordName.{HasWord};
 ghost use Rattle.sr_core.specs.HeldPipes.{AreOf, DoesTo, after_at, entered_at, is_idle_at, lines_at, op_at, views_of};
 ghost use Rattle.sr_machine.specs.Names.{word_name};
 ghost use Rattle.sr_machine.specs.Ops.{op_name};
-ghost use Rattle.sr_machine.specs.Pipe.{entered, fresh_pipe};
+ghost use Rattle.sr_machine.specs.Pipe.{entered, fresh_pipe, is_idle};
 
 use crate::PipeMachine;
 use sr_base::{Layout, Packet};
@@ -85,6 +85,14 @@ impl Pipes {
         is_idle_in(&self.pipes, pipe)
     }
 
+    /// Whether no pipe has a packet in hand.
+    #[tactic(auto, using(crate::proofs::Views::all_views))]
+    pub fn all_idle(&self) -> bool
+        ensures { result ≡ list_all (λ v. is_idle v.stage) self.now.views }
+    {
+        all_idle_in(&self.pipes)
+    }
+
     /// The lines of a pipe so far.
     pub fn lines(&self, pipe: u8) -> &[Line]
         requires { pipe < length self.now.views }
@@ -106,6 +114,13 @@ fn enter_at(layout: &Layout, pipes: &mut [PipeMachine], pipe: u8, packet: Packet
     } else {
         Stepped::NotNow
     }
+}
+
+// Whether none of these pipes has a packet in hand.
+fn all_idle_in(pipes: &[PipeMachine]) -> bool
+    ensures { result ≡ list_all (λ h. is_idle h.view.stage) pipes.now }
+{
+    pipes.iter().all(|pipe| pipe.is_idle())
 }
 
 // Whether the pipe of this number has no packet in hand.

@@ -72,7 +72,8 @@ impl PlainWords {
         requires { (first : List (List ℕ)) × (changes : List AChange) × FitsLayout layout.now first changes
             × (pools.now ≡ pools_from 0 first changes) }
         ensures layout { IfOk result (λ w. w.layout ≡ layout.now) }
-        ensures words { IfOk result (λ w. ShowsWords layout.now w.words (opening_words (record { layout = layout.now; pools = pools.now; changes = [] }))) }
+        ensures words { IfOk result (λ w. (changes : List AChange) → ShowsWords layout.now w.words
+            (opening_words (record { layout = layout.now; pools = pools.now; changes = changes }))) }
     {
         let mut words = PlainWords::zeros(alloc, layout)?;
         words.put(Name::Tick, layout.vips() as u64 + 1);

@@ -1,2 +1,4 @@
 pub mod Turns
+pub mod Lowers
+pub mod Picked
 mod Runs

@@ -1,3 +1,4 @@
+pub mod Left
 pub mod Play
 pub mod Run
 pub mod Turn

@@ -38,19 +38,19 @@ abbrev pub is_handled : List Packet → Bool
 is_handled [] = true
 is_handled (packet ∷ rest) = false
 
--- a pipe has no packet in hand, and none left of its share
-abbrev pub is_done : PipeView → List Packet → Bool
-is_done v share = is_idle v.stage && is_handled share
+-- a pipe has no packet in hand; nor has one that isn't there
+abbrev pub pipe_idle : Option PipeView → Bool
+pipe_idle None = true
+pipe_idle (Some v) = is_idle v.stage
 
--- so has every pipe
+-- what is left of a share; nothing of one that isn't there
+abbrev pub share_of : Option (List Packet) → List Packet
+share_of None = []
+share_of (Some share) = share
+
+-- every pipe has handled its share
 abbrev pub all_done : List PipeView → List (List Packet) → Bool
 all_done views shares = list_all (λ v. is_idle v.stage) views && list_all is_handled shares
-
--- the pipe of this view and share has ended its round; one that isn't there has nothing to do
-abbrev pub pipe_ended : Option PipeView → Option (List Packet) → Bool
-pipe_ended None share = true
-pipe_ended (Some v) None = is_done v []
-pipe_ended (Some v) (Some share) = is_done v share
 
 -- the controller has ended its round
 abbrev pub turns_ended : Play → Bool
@@ -60,9 +60,14 @@ turns_ended p = nat_le most_turns p.turns || (all_done p.state.pipes p.shares &&
 abbrev pub pipes_of : Play → ℕ
 pipes_of p = p.state.config.layout.shape.pipes
 
+-- an actor has ended its round: a pipe has no packet in hand, and none left of its share
 abbrev pub has_ended : Play → ℕ → Bool
 has_ended p i =
-    if i == pipes_of p then turns_ended p else pipe_ended (slice_get p.state.pipes i) (slice_get p.shares i)
+    if i == pipes_of p then turns_ended p else (pipe_idle (slice_get p.state.pipes i) && is_handled (share_of (slice_get p.shares i)))
+
+-- every actor has
+abbrev pub is_over : Play → Bool
+is_over p = list_all (has_ended p) (range_with_len 0 (pipes_of p + 1))
 
 -- ---- a pick
 
@@ -81,14 +86,6 @@ stepped_by p i true (packet ∷ rest) = record p {
   shares = slice_set p.shares i rest;
 }
 stepped_by p i idle share = record p { state = after (Step (actor.Pipe i)) p.state }
-
-abbrev pub share_of : Option (List Packet) → List Packet
-share_of None = []
-share_of (Some share) = share
-
-abbrev pub pipe_idle : Option PipeView → Bool
-pipe_idle None = true
-pipe_idle (Some v) = is_idle v.stage
 
 abbrev pub pipe_picked : Play → ℕ → Play
 pipe_picked p i = stepped_by p i (pipe_idle (slice_get p.state.pipes i)) (share_of (slice_get p.shares i))
@@ -126,10 +123,6 @@ abbrev pub pick : Play → Play
 pick p = pick_by p (next_state p.generator) (picked p (next_state p.generator))
 
 -- ---- a round
-
--- every actor has ended its round
-abbrev pub is_over : Play → Bool
-is_over p = all_done p.state.pipes p.shares && turns_ended p
 
 -- so many picks
 abbrev pub played : ℕ → Play → Play

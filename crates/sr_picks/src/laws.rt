@@ -1,12 +1,13 @@
 //! What the definitions mean.
 
-ghost use Rattle.std.specs.Prelude.{◌≡◌, ℕ, List, Some};
+ghost use Rattle.std.specs.Prelude.{◌≡◌, ℕ, List, None, Some, true};
 ghost use Rattle.sr_machine.specs.Config.{Config};
 ghost use Rattle.sr_machine.specs.Core.{Core as AState, Reaches};
 ghost use Rattle.sr_machine.specs.Turning.{turned};
 ghost use Rattle.sr_machine.specs.declared.settled.Settled.{Settled as ASettled};
 ghost use Rattle.sr_machine.specs.declared.turn.Turn.{Turn as ATurn};
-ghost use Rattle.sr_picks.specs.Play.{Play, PlaysTo};
+ghost use Rattle.sr_picks.specs.Left.{PicksLower};
+ghost use Rattle.sr_picks.specs.Play.{Play, PlaysTo, is_over, picked};
 ghost use Rattle.sr_picks.specs.Run.{RunsByPicks};
 ghost use Rattle.sr_picks.specs.Turn.{turn_of};
 ghost use Rattle.sr_rounds.specs.declared.timed.Timed.{Timed as ATimed};
@@ -16,6 +17,12 @@ pub fn picks_are_runs()
     ensures round { (k : Config) (p q : Play) → Reaches k p.state → PlaysTo p q → Reaches k q.state }
     ensures whole { (k : Config) (seed : ℕ) (packets : List ATimed) (r : ASettled) (t : AState) → RunsByPicks k seed packets r t
         → Reaches k t }
+{}
+
+/// A law: a round ends. Each pick lowers what is left of it, and where nobody is picked every actor has ended.
+pub fn rounds_end()
+    ensures lower { PicksLower }
+    ensures over { (p : Play) (x : ℕ) → picked p x ≡ None → is_over p ≡ true }
 {}
 
 /// A law: a turn that ends an act is the machine's turn.

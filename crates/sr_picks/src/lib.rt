@@ -5,9 +5,10 @@
 //! |---|---|
 //! | A turn of the controller, step by step | `Turn` |
 //! | A round: who has ended it, who is picked, what the picked one does | `Play` |
+//! | What is left of a round | `Left` |
 //! | All rounds of a capture, and the turns after the last | `Run` |
 #![tactic(auto)]
 
 mod laws;
 
-pub use laws::{picks_are_runs, turns_are_turns};
+pub use laws::{picks_are_runs, rounds_end, turns_are_turns};

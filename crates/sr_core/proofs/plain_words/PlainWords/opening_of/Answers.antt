@@ -26,8 +26,8 @@ give-requires-clause-pool c =
     (ap (λ ps. pool_of ps c.loop-vip.vip 1) (sym c.requires.3) ∙ sym c.in-Some.ensures))
 
 pub returns-clause-words : goal.returns-clause-words
-returns-clause-words c =
-    let k : Config = record { layout = c.args.layout.now; pools = c.args.pools.now; changes = [] } in
+returns-clause-words c = λ changes.
+    let k : Config = record { layout = c.args.layout.now; pools = c.args.pools.now; changes = changes } in
     let last : c.loop-vip.vip ≡ c.args.layout.now.vips = omega (arith, c.loop-vip-test.false, c.loop-vip.auto, c.vips-vip-end.ensures) in
     all_pools k c.loop-vip.words.words
     (subst (λ n. ShowsWords k.layout c.loop-vip.words.words (first_words k.layout (first_pool k) n)) last c.loop-vip.invariant.1)
