@@ -7,6 +7,7 @@ pub mod OpeningLines
 pub mod Pipes
 pub mod Plain
 pub mod Printing
+pub mod Ranges
 pub mod Reading
 pub mod Takes
 pub mod Taking

@@ -241,22 +241,23 @@ pub record UpdateHolds (k : Config) (update : Option PoolUpdate) (vips : List Vi
   pub others : (vip : ℕ) → IsAside update vip → (vip_at vips vip).phase ≡ Steady
   pub phase : JobAt k update vips j
 
-pub record VersionsHold (k : Config) (lines : List Line) (c : ControllerView) : Type 0 where
+pub record VersionsHold (k : Config) (lines : List Line) (update : Option PoolUpdate) (vips : List VipWord) (numbers : NumberRows) (named : List (List ℕ)) (entries : List Entry) (mark : ℕ) (j : Job) : Type 0 where
   pub current : (vip version : ℕ) → vip < k.layout.vips → version < k.layout.shape.versions
-      → (state_of vip version c.numbers ≡ Some Current) ↔ ((version ≡ standing c.update c.vips vip) ⊎ IsNew c.update c.job vip version)
-  pub ungiven : OnUngiven c.update c.job (λ u. state_of u.vip u.given c.numbers ≡ Some Free)
-  pub given : OnGiven c.update c.job (λ u. named_at c.named u.vip u.given ≡ u.pool)
-  pub pool : (vip version : ℕ) → named_at c.named vip version ≡ pool_given (last_version lines vip version)
-  pub some : (vip version : ℕ) → is_used c.numbers vip version ≡ true → 1 ≤ named_at c.named vip version
+      → (state_of vip version numbers ≡ Some Current) ↔ ((version ≡ standing update vips vip) ⊎ IsNew update j vip version)
+  pub ungiven : OnUngiven update j (λ u. state_of u.vip u.given numbers ≡ Some Free)
+  pub given : OnGiven update j (λ u. named_at named u.vip u.given ≡ u.pool)
+  pub pool : (vip version : ℕ) → named_at named vip version ≡ pool_given (last_version lines vip version)
+  pub some : (vip version : ℕ) → is_used numbers vip version ≡ true → 1 ≤ named_at named vip version
   pub last : (vip : ℕ) → vip < k.layout.vips
       → last_given lines vip ≡ Some (record {
         version =
-            newest c.update c.vips c.job vip;
-        pool = named_at c.named vip (newest c.update c.vips c.job vip);
+            newest update vips j vip;
+        pool = named_at named vip (newest update vips j vip);
       })
-  pub newer : AllByRecursion (SwitchesUpTo (λ vip. named_at c.named vip (learned c.vips vip))) lines
-  pub entries : AllByRecursion (λ e. is_used c.numbers e.key.vip e.version ≡ true) c.book.entries
-  pub waited : JobWaited c.book.entries c.numbers c.mark c.job
+  pub rises : IfSome update (λ u. named_at named u.vip u.replaced < u.pool)
+  pub newer : AllByRecursion (SwitchesUpTo (λ vip. named_at named vip (learned vips vip))) lines
+  pub used : AllByRecursion (λ e. is_used numbers e.key.vip e.version ≡ true) entries
+  pub waited : JobWaited entries numbers mark j
 
 pub record ChangesHold (k : Config) (lines : List Line) (c : ControllerView) : Type 0 where
   pub refusing : c.refusing ≡ true → MayBeRefused k.layout.shape.versions c
@@ -270,9 +271,13 @@ pub record ChangesHold (k : Config) (lines : List Line) (c : ControllerView) : T
 
 pub record InUpdate (s : Core) : Type 0 where
   pub update : UpdateHolds s.config s.controller.update s.controller.vips s.controller.job
-  pub versions : VersionsHold s.config (printed s) s.controller
+  pub versions : VersionsHold s.config (printed s) s.controller.update s.controller.vips s.controller.numbers s.controller.named s.controller.book.entries s.controller.mark s.controller.job
   pub changes : ChangesHold s.config (printed s) s.controller
 
 -- its first part alone: the update and its phase
 abbrev pub PhasesHold : Core → Type 0
 PhasesHold s = UpdateHolds s.config s.controller.update s.controller.vips s.controller.job
+
+-- its second part alone: the versions
+abbrev pub VersionsKept : Core → Type 0
+VersionsKept s = VersionsHold s.config (printed s) s.controller.update s.controller.vips s.controller.numbers s.controller.named s.controller.book.entries s.controller.mark s.controller.job

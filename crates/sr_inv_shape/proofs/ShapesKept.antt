@@ -8,13 +8,14 @@ use Rattle.sr_base.specs.declared.vip_word.Phase.TheVariants.{Steady, Recording,
 use Rattle.sr_inv_facts.proofs.Beginning.{begun_by}
 use Rattle.sr_inv_facts.proofs.Lists.{end_rest, of_some}
 use Rattle.sr_inv_facts.proofs.Pipes.{each_set}
+use Rattle.sr_inv_facts.proofs.Ranges.{put_fits}
 use Rattle.sr_inv_facts.specs.Fitted.{IsPacket}
 use Rattle.sr_inv_facts.specs.InJobs.{JobHolds, seen}
 use Rattle.sr_inv_facts.specs.InShape.{ControllerFits, InShape, JobFits, StageFits, downing, servers_of}
 use Rattle.sr_inv_facts.specs.InUpdate.{JobAt, UpdateFits}
 use Rattle.sr_inv_facts.specs.Invariant.{Invariant}
 use Rattle.sr_inv_facts.specs.Readings.{IsEnd}
-use Rattle.sr_inv_shape.proofs.FittingController.{NeedsFit, book_fits, controller_fits, put_fits}
+use Rattle.sr_inv_shape.proofs.FittingController.{NeedsFit, book_fits, controller_fits}
 use Rattle.sr_inv_shape.proofs.FittingStages.{stage_fits}
 use Rattle.sr_machine.specs.Begins.{Begins}
 use Rattle.sr_machine.specs.Config.{Config}

@@ -1,3 +1,11 @@
 pub mod Changes
 pub mod Phases
 pub mod PhasesKept
+pub mod Rows
+pub mod VersionBegins
+pub mod VersionEntries
+pub mod VersionEvents
+pub mod VersionSteps
+pub mod VersionStores
+pub mod Versions
+pub mod VersionsKept

@@ -90,7 +90,7 @@ word_phase u w p (inr (r, e)) q n =
     let same : r ≡ p = sym (phase_of u r) ∙ (ap (λ w. w.phase) (sym e) ∙ q) in e ∙ ap (phase_word u) same
 
 -- the least number that passes is one of the row, and passes
-found_number : (test : ℕ → NumberState → Bool) (base n : ℕ) (row : List NumberState) → first_number test base row ≡ Some n
+pub found_number : (test : ℕ → NumberState → Bool) (base n : ℕ) (row : List NumberState) → first_number test base row ≡ Some n
     → (i : ℕ) × (is : NumberState) × (n ≡ base + i) × (i < length row) × (slice_get row i ≡ Some is) × (test n is ≡ true)
 found_number test base n [] e = cc
 found_number test base n (st ∷ row) e = at (test base st) refl e (found_number test (base + 1) n row)
@@ -132,7 +132,7 @@ pool_some k f vip number e = at (pool_of k.pools vip number) refl e
     at None q r = cc
     at (Some pool) q r = omega (arith, (pool_fits k f vip number pool q).some)
 
-module _ (k : Config) (c : ControllerView) (f : IsFitted k) (b : ControllerFits k c) (lines : List Line) (v : VersionsHold k lines c) (free : c.job ≡ job.Free) (h : UpdateHolds k c.update c.vips job.Free) where
+module _ (k : Config) (c : ControllerView) (f : IsFitted k) (b : ControllerFits k c) (lines : List Line) (v : VersionsHold k lines c.update c.vips c.numbers c.named c.book.entries c.mark c.job) (free : c.job ≡ job.Free) (h : UpdateHolds k c.update c.vips job.Free) where
   begins_as : (m : Job) → JobAt k c.update c.vips m → UpdateHolds k c.update c.vips m
   begins_as m a = record { fits = h.fits; word = h.word; others = h.others; phase = a }
 
