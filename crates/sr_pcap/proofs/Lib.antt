@@ -1,2 +1,1 @@
-pub mod Capture
 pub mod Reading

@@ -3,5 +3,4 @@ pub mod Format
 pub mod Next
 pub mod Reader
 pub mod RecordHeader
-pub mod Records
 pub mod Resolution

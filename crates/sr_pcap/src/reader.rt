@@ -1,7 +1,7 @@
-ghost use Rattle.std.specs.Prelude.{◌≡◌, ◌⊎◌, ℕ, ◌+◌, ◌≤◌, List, [], length, take, drop, None, Err, IfOk};
+ghost use Rattle.std.specs.Prelude.{◌≡◌, ◌≢◌, ◌⊎◌, ℕ, ◌+◌, ◌≤◌, List, [], length, take, drop, None, Err, IfOk};
 ghost use Rattle.std.specs.Option.{ForSome};
 ghost use Rattle.sr_io.specs.Faults.{Counts};
-ghost use Rattle.sr_io.specs.Window.{Pending, passed};
+ghost use Rattle.sr_io.specs.Window.{Pending, new_window, passed};
 ghost use Rattle.sr_pcap.specs.Reader.{Steps, Answers, Begins, Looks, Found, ended_by, with_record, with_window};
 ghost use Rattle.sr_pcap.specs.declared.begin_refusal.BeginRefusal.TheVariants as begin;
 ghost use Rattle.sr_pcap.specs.declared.next.Next.TheVariants.{Whole, ReadFault};
@@ -10,7 +10,7 @@ use crate::format::{CAPTURE_HEADER, Format};
 use crate::record_header::{RECORD_HEADER, RecordHeader};
 use crate::{BeginRefusal, Next};
 use sr_io::{Source, Window};
-use std::alloc::Global;
+use std::alloc::{AllocError, Global};
 use std::marker::Model;
 
 // How many bytes a reader has room for: two of the longest records, since the last one stays while the next is read.
@@ -45,6 +45,13 @@ impl Model for Reader {
 }
 
 impl Reader {
+    /// A window with room for two of the longest records, as a reader needs it.
+    pub fn window(alloc: Global) -> Result<Window, AllocError>
+        ensures { IfOk result (λ w. w ≡ new_window 524320) }
+    {
+        Window::new(alloc, ROOM)
+    }
+
     /// Reads the 24 bytes of a capture's header, and then judges them. The room for the bytes is made first, and no call after this one needs
     /// memory.
     pub fn begin<S: Source>(alloc: Global, source: &mut S) -> Result<Reader, BeginRefusal>
@@ -55,7 +62,24 @@ impl Reader {
         ensures faults { Counts (result ≡ Err begin.ReadFault) (S.known source.old).faults (S.known source.new).faults }
         ensures memory { result ≡ Err begin.Memory → source.new ≡ source.old }
     {
-        let mut window = Window::new(alloc, ROOM)?;
+        let window = Reader::window(alloc)?;
+        Reader::begin_through(window, source)
+    }
+
+    /// Reads the header through a window that may have some of the capture's first bytes already. It takes no memory.
+    pub fn begin_through<S: Source>(
+        mut window: Window,
+        source: &mut S,
+    ) -> Result<Reader, BeginRefusal>
+        requires used { window.used ≡ [] }
+        requires room { window.room ≡ 524320 }
+        ensures offset { (n : ℕ) → result ≡ Err (begin.Truncated n) → n ≡ 0 }
+        ensures header { (xs : List ℕ) → Pending window (S.known source.old).left xs → Begins result xs (S.known source.new).left }
+        ensures link { IfOk result (λ r. (r.format.link ≡ 1) ⊎ (r.format.link ≡ 101)) }
+        ensures fresh { IfOk result (λ r. (r.offset ≡ 24) × (r.bytes ≡ []) × (r.ended ≡ None)) }
+        ensures faults { Counts (result ≡ Err begin.ReadFault) (S.known source.old).faults (S.known source.new).faults }
+        ensures memory { result ≢ Err begin.Memory }
+    {
         window.fill(source, CAPTURE_HEADER)?;
         let format = Format::of_capture(window.unread())?;
         window.pass(CAPTURE_HEADER);

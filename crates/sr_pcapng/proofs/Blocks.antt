@@ -15,7 +15,7 @@ use Rattle.sr_pcapng.specs.Options.{Walked, walk}
 use Rattle.sr_pcapng.specs.Reading.{Gives}
 
 -- an error that was passed on
-pub gives_err : {A B : Type 0} (view : A → List ℕ → B) (why : Stop) (r : Result A Stop) (definition : Result B Stop) (left : Option (List ℕ)) → r ≡ Err why
+pub gives_err : {A B : Type 0} (view : A → List ℕ → B) (why : Stop) (r : Result A Stop) (definition : Result B Stop) (left : List ℕ → Type 0) → r ≡ Err why
     → (why ≡ ReadFault) ⊎ (definition ≡ Err why) → Gives view r definition left
 gives_err view why r definition left e f = subst (λ z. Gives view z definition left) (sym e) f
 
@@ -41,7 +41,7 @@ closed_ok endian offset size more xs last same e =
 
 -- ---- any other block
 
-pub other_gives : {A : Type 0} (r : Result A Stop) (section : SectionView) (endian : Endian) (offset size : ℕ) (xs : List ℕ) (left : Option (List ℕ)) → endian ≡ endian_of section
+pub other_gives : {A : Type 0} (r : Result A Stop) (section : SectionView) (endian : Endian) (offset size : ℕ) (xs : List ℕ) (left : List ℕ → Type 0) → endian ≡ endian_of section
     → Gives (λ _ rest. rest) r (closed endian offset size (size - 12) xs) left
     → Gives (λ _ rest. record { packet = None; section = section; size = size; rest = rest }) r (other_block section offset size xs) left
 unfolding other_block

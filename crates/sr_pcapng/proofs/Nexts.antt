@@ -5,11 +5,12 @@ use Rattle.sr_pcapng.specs.declared.stop.Stop.{Stop}
 use Rattle.sr_pcapng.specs.declared.stop.Stop.TheVariants.{End, Truncated, ReadFault, TooLong, Block, Magic, Major, TooMany}
 use Rattle.sr_pcapng.specs.declared.ng_next.NgNext.{NgNext}
 use Rattle.sr_pcapng.specs.declared.packet_head.PacketHead.{PacketHead}
-use Rattle.sr_pcapng.specs.Block.{Packet, block_at}
+use Rattle.sr_pcapng.specs.Block.{Packet, Whole, block_at}
 use Rattle.sr_pcapng.specs.Front.{SectionView}
 use Rattle.sr_pcapng.specs.Next.{Arrival, at_end, next_from}
 use Rattle.sr_pcapng.specs.Reader.{ReaderView, Arrives, Answers, Ends, HasEnded, PassesOver, Steps, next_at}
 use Rattle.sr_pcapng.specs.Stop.{said}
+use Rattle.sr_pcapng.proofs.Blocks.{err_then}
 
 -- no byte is left
 pub next_none : (room offset : ℕ) (section : SectionView) (xs : List ℕ) → length xs ≡ 0 → next_from room offset section xs ≡ Err (at_end section offset)
@@ -78,10 +79,15 @@ next_pass room less offset size section after xs rest filled packet r some p e =
     let there = e ∙ ap (λ (q : Option PacketHead). Ok (record { packet = option_map (λ h. record { head = h; bytes = take h.captured filled }) q; section = after; size = size; rest = rest })) p in
     ap (λ (n : ℕ). next_from n offset section xs) r ∙ pass_at less offset size section after xs rest some there
 
+-- an error of a block is no end
+pub sound_end : (why : Stop) (definition : Result Whole Stop) → (why ≡ ReadFault) ⊎ (definition ≡ Err why) → (definition ≡ Err why → why ≡ End → ⊥) → why ≡ End → ⊥
+sound_end why definition (inl fault) sound end = cc (fault, end)
+sound_end why definition (inr e) sound end = sound e end
+
 -- an error that was passed on
 pub steps_err : (why : Stop) (r : Result (Option PacketHead) Stop) (old : ReaderView) (xs : List ℕ) (new : ReaderView) (left : Option (List ℕ)) → r ≡ Err why
-    → (why ≡ ReadFault) ⊎ (next_at old.place xs ≡ Err why) → Steps r old xs new left
-steps_err why r old xs new left e f = subst (λ z. Steps z old xs new left) (sym e) f
+    → (why ≡ ReadFault) ⊎ (next_at old.place xs ≡ Err why) → (why ≡ End → ⊥) → Steps r old xs new left
+steps_err why r old xs new left e f more = subst (λ z. Steps z old xs new left) (sym e) (f, λ ends. absurd (more ends))
 
 -- blocks without a packet were passed over, and then a packet came
 pub arrives_after : (ms link at from : ℕ) (first last : Result Arrival Stop) (reader : ReaderView) (left : Option (List ℕ)) → at ≡ from → first ≡ last → Arrives ms link at last reader left
@@ -105,22 +111,23 @@ pub passes_after : (old middle new : ReaderView) (xs : List ℕ) (before left : 
 passes_after old middle new xs before left p q = record { rest = q.rest; told = q.told; same = p.same ∙ q.same }
 
 -- no packet came
-pub answers_err : (why : Stop) (definition : Result Arrival Stop) (reader : ReaderView) (left : Option (List ℕ)) → (why ≡ ReadFault) ⊎ (definition ≡ Err why) → Answers (said why) definition reader left
-answers_err End definition reader left (inr e) = e
-answers_err (Truncated at) definition reader left (inr e) = e
-answers_err ReadFault definition reader left f = tt
-answers_err (TooLong at size) definition reader left (inr e) = e
-answers_err (Block at) definition reader left (inr e) = e
-answers_err Magic definition reader left (inr e) = e
-answers_err Major definition reader left (inr e) = e
-answers_err (TooMany at) definition reader left (inr e) = e
-answers_err End definition reader left (inl f) = absurd (cc f)
-answers_err (Truncated at) definition reader left (inl f) = absurd (cc f)
-answers_err (TooLong at size) definition reader left (inl f) = absurd (cc f)
-answers_err (Block at) definition reader left (inl f) = absurd (cc f)
-answers_err Magic definition reader left (inl f) = absurd (cc f)
-answers_err Major definition reader left (inl f) = absurd (cc f)
-answers_err (TooMany at) definition reader left (inl f) = absurd (cc f)
+pub answers_err : (why : Stop) (definition : Result Arrival Stop) (reader : ReaderView) (left : Option (List ℕ)) → (why ≡ ReadFault) ⊎ (definition ≡ Err why) → (why ≡ End → left ≡ Some [])
+    → Answers (said why) definition reader left
+answers_err End definition reader left (inr e) none = (e, none refl)
+answers_err (Truncated at) definition reader left (inr e) none = e
+answers_err ReadFault definition reader left f none = tt
+answers_err (TooLong at size) definition reader left (inr e) none = e
+answers_err (Block at) definition reader left (inr e) none = e
+answers_err Magic definition reader left (inr e) none = e
+answers_err Major definition reader left (inr e) none = e
+answers_err (TooMany at) definition reader left (inr e) none = e
+answers_err End definition reader left (inl f) none = absurd (cc f)
+answers_err (Truncated at) definition reader left (inl f) none = absurd (cc f)
+answers_err (TooLong at size) definition reader left (inl f) none = absurd (cc f)
+answers_err (Block at) definition reader left (inl f) none = absurd (cc f)
+answers_err Magic definition reader left (inl f) none = absurd (cc f)
+answers_err Major definition reader left (inl f) none = absurd (cc f)
+answers_err (TooMany at) definition reader left (inl f) none = absurd (cc f)
 
 pub ends_with : (why : Stop) (reader : ReaderView) → HasEnded (said why) reader → Ends (said why) reader
 ends_with End reader e = e
@@ -134,9 +141,9 @@ ends_with (TooMany at) reader e = e
 
 -- the same of what is said
 pub answers_said : (why : NgNext) (stop : Stop) (first last : Result Arrival Stop) (reader : ReaderView) (left : Option (List ℕ)) → why ≡ said stop → first ≡ last
-    → (stop ≡ ReadFault) ⊎ (last ≡ Err stop) → Answers why first reader left
-answers_said why stop first last reader left e same (inl f) = subst (λ n. Answers n first reader left) (sym e) (answers_err stop first reader left (inl f))
-answers_said why stop first last reader left e same (inr f) = subst (λ n. Answers n first reader left) (sym e) (answers_err stop first reader left (inr (same ∙ f)))
+    → ((stop ≡ ReadFault) ⊎ (last ≡ Err stop)) × (stop ≡ End → left ≡ Some []) → Answers why first reader left
+answers_said why stop first last reader left e same f =
+    subst (λ n. Answers n first reader left) (sym e) (answers_err stop first reader left (err_then stop last first f.0 (λ g. same ∙ g)) f.1)
 
 pub ends_said : (why : NgNext) (stop : Stop) (reader : ReaderView) → why ≡ said stop → reader.ended ≡ Some why → reader.bytes ≡ [] → Ends why reader
 ends_said why stop reader e ended none = subst (λ n. Ends n reader) (sym e) (ends_with stop reader (ended ∙ ap (λ (n : NgNext). Some n) e, none))

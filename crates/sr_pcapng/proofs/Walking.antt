@@ -8,15 +8,15 @@ use Rattle.sr_pcapng.specs.Options.{Walked, option_of, kept, walk}
 use Rattle.sr_pcapng.specs.Reading.{SteppedOver}
 
 -- what is left of a walk is the whole walk
-pub record WalksOn (endian : Endian) (offset room : ℕ) (resolution : Option ℕ) (left : Option (List ℕ)) (all : Result Walked Stop) : Type 0 where
+pub record WalksOn (endian : Endian) (offset room : ℕ) (resolution : Option ℕ) (left : List ℕ → Type 0) (all : Result Walked Stop) : Type 0 where
   pub most : ℕ
   pub enough : room ≤ most
   pub rest : List ℕ
-  pub told : left ≡ Some rest
+  pub told : left rest
   pub same : walk most endian offset room resolution rest ≡ all
 
 -- the walk begins
-pub walks_all : (endian : Endian) (offset room : ℕ) (xs : List ℕ) (left : Option (List ℕ)) → left ≡ Some xs → WalksOn endian offset room None left (walk room endian offset room None xs)
+pub walks_all : (endian : Endian) (offset room : ℕ) (xs : List ℕ) (left : List ℕ → Type 0) → left xs → WalksOn endian offset room None left (walk room endian offset room None xs)
 walks_all endian offset room xs left told = record { most = room; enough = omega arith; rest = xs; told = told; same = refl }
 
 some_room : (most endian_room : ℕ) → 0 < endian_room → endian_room ≤ most → most ≡ 0 → ⊥
@@ -46,11 +46,11 @@ walk_nothing zero endian offset room resolution xs none = rw (none) refl
 walk_nothing (suc most) endian offset room resolution xs none = rw (none) refl
 
 -- no byte of options is left
-pub walks_nothing : (endian : Endian) (offset room : ℕ) (resolution : Option ℕ) (left : Option (List ℕ)) (all : Result Walked Stop) → (w : WalksOn endian offset room resolution left all) → room ≡ 0
+pub walks_nothing : (endian : Endian) (offset room : ℕ) (resolution : Option ℕ) (left : List ℕ → Type 0) (all : Result Walked Stop) → (w : WalksOn endian offset room resolution left all) → room ≡ 0
     → all ≡ Ok (record { resolution = resolution; more = 0; rest = w.rest })
 walks_nothing endian offset room resolution left all w none = sym w.same ∙ walk_nothing w.most endian offset room resolution w.rest none
 
-value_at : (most : ℕ) (endian : Endian) (offset room : ℕ) (resolution now : Option ℕ) (size : ℕ) (xs : List ℕ) (after : Option (List ℕ)) (all : Result Walked Stop) → room ≤ most → 0 < room
+value_at : (most : ℕ) (endian : Endian) (offset room : ℕ) (resolution now : Option ℕ) (size : ℕ) (xs : List ℕ) (after : List ℕ → Type 0) (all : Result Walked Stop) → room ≤ most → 0 < room
     → walk most endian offset room resolution xs ≡ all → SteppedOver size now (option_of endian offset room (take 4 xs)) resolution (drop 4 xs) after
     → WalksOn endian offset (room - (4 + size)) now after all
 value_at zero endian offset room resolution now size xs after all enough some same step = absurd (omega arith)
@@ -65,7 +65,7 @@ value_at (suc most) endian offset room resolution now size xs after all enough s
 }
 
 -- an option was walked over
-pub walks_value : (endian : Endian) (offset room : ℕ) (resolution now : Option ℕ) (size : ℕ) (left after : Option (List ℕ)) (all : Result Walked Stop) → (w : WalksOn endian offset room resolution left all) → 0 < room
+pub walks_value : (endian : Endian) (offset room : ℕ) (resolution now : Option ℕ) (size : ℕ) (left after : List ℕ → Type 0) (all : Result Walked Stop) → (w : WalksOn endian offset room resolution left all) → 0 < room
     → SteppedOver size now (option_of endian offset room (take 4 w.rest)) resolution (drop 4 w.rest) after → WalksOn endian offset (room - (4 + size)) now after all
 walks_value endian offset room resolution now size left after all w some step =
     value_at w.most endian offset room resolution now size w.rest after all w.enough some w.same step
@@ -76,7 +76,7 @@ last_at zero endian offset room resolution xs enough some e = absurd (omega arit
 last_at (suc most) endian offset room resolution xs enough some e = walk_last most endian offset room resolution xs some e
 
 -- no option follows
-pub walks_last : (endian : Endian) (offset room : ℕ) (resolution : Option ℕ) (left : Option (List ℕ)) (all : Result Walked Stop) → (w : WalksOn endian offset room resolution left all) → 0 < room
+pub walks_last : (endian : Endian) (offset room : ℕ) (resolution : Option ℕ) (left : List ℕ → Type 0) (all : Result Walked Stop) → (w : WalksOn endian offset room resolution left all) → 0 < room
     → option_of endian offset room (take 4 w.rest) ≡ Ok Last → all ≡ Ok (record { resolution = resolution; more = room - 4; rest = drop 4 w.rest })
 walks_last endian offset room resolution left all w some e = sym w.same ∙ last_at w.most endian offset room resolution w.rest w.enough some e
 
@@ -86,7 +86,7 @@ error_at zero endian offset room resolution xs why enough some e = absurd (omega
 error_at (suc most) endian offset room resolution xs why enough some e = walk_error most endian offset room resolution xs why some e
 
 -- an option breaks the format, or is cut
-pub walks_error : (endian : Endian) (offset room : ℕ) (resolution : Option ℕ) (left : Option (List ℕ)) (all : Result Walked Stop) (why : Stop) → (w : WalksOn endian offset room resolution left all) → 0 < room
+pub walks_error : (endian : Endian) (offset room : ℕ) (resolution : Option ℕ) (left : List ℕ → Type 0) (all : Result Walked Stop) (why : Stop) → (w : WalksOn endian offset room resolution left all) → 0 < room
     → option_of endian offset room (take 4 w.rest) ≡ Err why → all ≡ Err why
 walks_error endian offset room resolution left all why w some e = sym w.same ∙ error_at w.most endian offset room resolution w.rest why w.enough some e
 

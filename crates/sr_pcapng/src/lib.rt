@@ -6,6 +6,7 @@
 //! answers what the definition `next_from` reads off the list of the bytes that are left.
 #![tactic(auto)]
 
+mod ahead;
 mod block;
 mod endian;
 mod front;
@@ -15,7 +16,6 @@ mod ng_reader;
 mod option_head;
 mod options;
 mod packet_head;
-mod reading;
 mod section;
 mod stop;
 

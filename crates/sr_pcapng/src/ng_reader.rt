@@ -1,28 +1,26 @@
-ghost use Rattle.std.specs.Prelude.{◌≡◌, ◌+◌, ◌<◌, ◌≤◌, [], None, Ok, Err, Some, IfOk};
+ghost use Rattle.std.specs.Prelude.{◌≡◌, ℕ, ◌+◌, ◌<◌, ◌≤◌, List, [], length, None, Ok, Err, Some, IfOk};
 ghost use Rattle.std.specs.Option.{ForSome};
 ghost use Rattle.sr_io.specs.Faults.{Counts};
+ghost use Rattle.sr_io.specs.Window.{Pending};
 ghost use Rattle.sr_pcapng.specs.Next.{front_place, at_end};
 ghost use Rattle.sr_pcapng.specs.Reader.{Answers, Ends, Keeps, Steps, next_at};
 ghost use Rattle.sr_pcapng.specs.declared.ng_next.NgNext.TheVariants.{ReadFault};
 ghost use Rattle.sr_pcapng.specs.declared.stop.Stop.TheVariants as stop;
 
 use crate::NgNext;
+use crate::ahead::Ahead;
 use crate::block::read_block;
 use crate::packet_head::PacketHead;
-use crate::reading::fill;
 use crate::section::{MOST_CAPTURED, Section};
 use crate::stop::Stop;
-use sr_io::Source;
+use sr_io::{Source, Window};
 use std::alloc::{AllocError, Global};
 use std::marker::Model;
 
 // The most blocks of a capture.
 const MOST_BLOCKS: u32 = 16_777_216;
 
-// How many bytes are passed over at once.
-const SCRATCH: usize = 65_536;
-
-/// Reads a pcapng capture, a packet at a time. The source is handed to each call, and must be the same one each time.
+/// Reads a pcapng capture, a packet at a time. The source is handed to each call, and must be the same one each time. It is read ahead.
 #[derive(Debug, Drop)]
 pub struct NgReader {
     section: Section,
@@ -32,7 +30,7 @@ pub struct NgReader {
     // Room for the captured bytes of a packet, and how many of them there are.
     packet: Vec<u8>,
     size: usize,
-    scratch: Vec<u8>,
+    ahead: Ahead,
     ended: Option<NgNext>,
 }
 
@@ -45,18 +43,21 @@ impl Model for NgReader {
     ghost view = { λ r. record {
       place = record { room = r.room; offset = r.offset; section = r.section };
       bytes = take r.size r.packet.items;
+      window = r.ahead;
       ended = r.ended;
     } };
 
     ghost invariant = { λ r.
-        (vec_len r.packet ≡ 262144) × (vec_len r.scratch ≡ 65536) × (r.size ≤ 262144)
+        (vec_len r.packet ≡ 262144) × (r.size ≤ 262144)
         × (r.offset + r.room * 2 ^ 32 ≤ 2 ^ 56) };
 }
 
 impl NgReader {
-    /// A reader that has read nothing. The room for a packet is made here, and no call after this one needs memory.
-    pub fn begin(alloc: Global) -> Result<NgReader, AllocError>
-        ensures { IfOk result (λ r. r ≡ record { place = front_place; bytes = []; ended = None }) }
+    /// A reader through this window, in which nothing is used yet. It reads nothing. The room for a packet is made here, and no call after this
+    /// one needs memory.
+    pub fn begin(alloc: Global, window: Window) -> Result<NgReader, AllocError>
+        requires { length window.used < window.room }
+        ensures { IfOk result (λ r. r ≡ record { place = front_place; bytes = []; window = window; ended = None }) }
     {
         Ok(NgReader {
             section: Section::new(alloc)?,
@@ -64,7 +65,7 @@ impl NgReader {
             room: MOST_BLOCKS,
             packet: vec![in alloc; 0; MOST_CAPTURED as usize]?,
             size: 0,
-            scratch: vec![in alloc; 0; SCRATCH]?,
+            ahead: Ahead::new(window),
             ended: None,
         })
     }
@@ -78,8 +79,8 @@ impl NgReader {
 
     /// Reads on to the next packet. Once it has answered anything else it reads no more, and answers the same.
     pub fn next<S: Source>(&mut self, source: &mut S) -> NgNext
-        ensures packet { self.old.ended ≡ None → ForSome (S.known source.old).left (λ xs.
-            Answers result (next_at self.old.place xs) self.new (S.known source.new).left) }
+        ensures packet { self.old.ended ≡ None → (xs : List ℕ) → Pending self.old.window (S.known source.old).left xs
+            → Answers result (next_at self.old.place xs) self.new (S.known source.new).left }
         ensures ends { self.old.ended ≡ None → Ends result self.new }
         ensures again { ForSome self.old.ended (λ why.
             (result ≡ why) × (self.new ≡ self.old) × (source.new ≡ source.old)) }
@@ -95,8 +96,8 @@ impl NgReader {
     // Reads on to the next packet, of a reader that hasn't ended.
     fn read_on<S: Source>(&mut self, source: &mut S) -> NgNext
         requires { self.old.ended ≡ None }
-        ensures packet { ForSome (S.known source.old).left (λ xs.
-            Answers result (next_at self.old.place xs) self.new (S.known source.new).left) }
+        ensures packet { (xs : List ℕ) → Pending self.old.window (S.known source.old).left xs
+            → Answers result (next_at self.old.place xs) self.new (S.known source.new).left }
         ensures ends { Ends result self.new }
         ensures faults { Counts (result ≡ ReadFault) (S.known source.old).faults (S.known source.new).faults }
     {
@@ -122,14 +123,14 @@ impl NgReader {
 
     // Reads a block, if one follows and may follow: the packet that it carries.
     fn step<S: Source>(&mut self, source: &mut S) -> Result<Option<PacketHead>, Stop>
-        ensures steps { ForSome (S.known source.old).left (λ xs.
-            Steps result self.old xs self.new (S.known source.new).left) }
+        ensures steps { (xs : List ℕ) → Pending self.old.window (S.known source.old).left xs
+            → Steps result self.old xs self.new (S.known source.new).left }
         ensures bytes { Keeps result self.old self.new }
         ensures faults { Counts (result ≡ Err stop.ReadFault) (S.known source.old).faults (S.known source.new).faults }
     {
         self.size = 0;
         let mut first = [0; 8];
-        let n = fill(source, &mut first, 8)?;
+        let n = self.ahead.fill(source, &mut first, 8)?;
         if n == 0 {
             return Err(self.at_end());
         }
@@ -139,7 +140,7 @@ impl NgReader {
         }
         let (head, size) = read_block(
             source,
-            &mut self.scratch,
+            &mut self.ahead,
             &mut self.section,
             &mut self.packet,
             offset,

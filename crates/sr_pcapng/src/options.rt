@@ -1,13 +1,13 @@
-ghost use Rattle.std.specs.Prelude.{◌≡◌, ◌≢◌, ℕ, ◌+◌, ◌<◌, ◌≤◌, length, take, drop, true, Some, None, Err, IsErr, IfOk, IfErr, IfSome};
-ghost use Rattle.std.specs.Option.{ForSome};
+ghost use Rattle.std.specs.Prelude.{◌≡◌, ◌≢◌, ℕ, ◌+◌, ◌<◌, ◌≤◌, List, length, take, drop, true, Some, None, Err, IsErr, IfOk, IfErr, IfSome};
 ghost use Rattle.sr_io.specs.Faults.{Counts};
+ghost use Rattle.sr_io.specs.Window.{Pending};
 ghost use Rattle.sr_pcapng.specs.Options.{option_of, option_sized, walk, kept, FitsIn};
 ghost use Rattle.sr_pcapng.specs.Reading.{Keeps, Steps, Walks};
 ghost use Rattle.sr_pcapng.specs.declared.stop.Stop.TheVariants.{ReadFault};
 
+use crate::ahead::Ahead;
 use crate::endian::Endian;
 use crate::option_head::OptionHead;
-use crate::reading::{fill, skip};
 use crate::section::padded;
 use crate::stop::Stop;
 use sr_io::Source;
@@ -19,21 +19,20 @@ const RESOLUTION: u16 = 9;
 /// of the body follow the last of them.
 pub fn walk<S: Source>(
     source: &mut S,
-    scratch: &mut [u8],
+    ahead: &mut Ahead,
     endian: Endian,
     offset: u64,
     size: u64,
 ) -> Result<(Option<u8>, u64), Stop>
-    requires { 0 < length scratch.old }
-    ensures walks { ForSome (S.known source.old).left (λ xs.
-        Walks result (walk size endian offset size None xs) (S.known source.new).left) }
+    ensures walks { (xs : List ℕ) → Pending ahead.old (S.known source.old).left xs →
+        Walks result (walk size endian offset size None xs) (Pending ahead.new (S.known source.new).left) }
     ensures faults { Counts (result ≡ Err ReadFault) (S.known source.old).faults (S.known source.new).faults }
     ensures more { IfOk result (λ r. r.1 ≤ size) }
 {
     let mut room = size;
     let mut resolution = None;
     while room > 0 {
-        match step(source, scratch, endian, offset, room, resolution)? {
+        match step(source, ahead, endian, offset, room, resolution)? {
             Some((size, now)) => {
                 room -= 4 + size;
                 resolution = now;
@@ -47,25 +46,24 @@ pub fn walk<S: Source>(
 // Walks over one option: how many bytes its value has, and the resolution after it; or none where no option follows.
 fn step<S: Source>(
     source: &mut S,
-    scratch: &mut [u8],
+    ahead: &mut Ahead,
     endian: Endian,
     offset: u64,
     room: u64,
     resolution: Option<u8>,
 ) -> Result<Option<(u64, Option<u8>)>, Stop>
-    requires { 0 < length scratch.old }
-    ensures steps { ForSome (S.known source.old).left (λ xs.
-        Steps result (option_of endian offset room (take 4 xs)) resolution (drop 4 xs) (S.known source.new).left) }
+    ensures steps { (xs : List ℕ) → Pending ahead.old (S.known source.old).left xs →
+        Steps result (option_of endian offset room (take 4 xs)) resolution (drop 4 xs) (Pending ahead.new (S.known source.new).left) }
     ensures within { IfOk result (λ r. IfSome r (λ s. 4 + s.0 ≤ room)) }
     ensures faults { Counts (result ≡ Err ReadFault) (S.known source.old).faults (S.known source.new).faults }
 {
     let mut head = [0; 4];
-    let n = fill(source, &mut head, 4)?;
+    let n = ahead.fill(source, &mut head, 4)?;
     match option_head(endian, offset, room, &head[..n])? {
         OptionHead::Last => Ok(None),
         OptionHead::Value { size, tells } => Ok(Some((
             size,
-            read_value(source, scratch, size, tells, resolution)?,
+            read_value(source, ahead, size, tells, resolution)?,
         ))),
     }
 }
@@ -73,25 +71,24 @@ fn step<S: Source>(
 // Walks over the value of an option: the resolution after it.
 fn read_value<S: Source>(
     source: &mut S,
-    scratch: &mut [u8],
+    ahead: &mut Ahead,
     size: u64,
     tells: bool,
     resolution: Option<u8>,
 ) -> Result<Option<u8>, Stop>
-    requires room { 0 < length scratch.old }
-    requires size { tells ≡ true → 4 ≤ size }
-    ensures keeps { ForSome (S.known source.old).left (λ xs.
-        Keeps result (kept resolution tells xs) (drop size xs) (S.known source.new).left) }
+    requires { tells ≡ true → 4 ≤ size }
+    ensures keeps { (xs : List ℕ) → Pending ahead.old (S.known source.old).left xs →
+        Keeps result (kept resolution tells xs) (drop size xs) (Pending ahead.new (S.known source.new).left) }
     ensures error { IfErr result (λ why. why ≡ ReadFault) }
     ensures faults { Counts (IsErr result) (S.known source.old).faults (S.known source.new).faults }
 {
     if resolution.is_some() || !tells {
-        skip(source, scratch, size)?;
+        ahead.skip(source, size)?;
         return Ok(resolution);
     }
     let mut first = [0; 4];
-    let n = fill(source, &mut first, 4)?;
-    skip(source, scratch, size - 4)?;
+    let n = ahead.fill(source, &mut first, 4)?;
+    ahead.skip(source, size - 4)?;
     Ok(first[..n].first().copied())
 }
 

@@ -1,7 +1,9 @@
 ghost use Rattle.std.specs.Prelude.{◌≡◌};
 ghost use Rattle.sr_pcapng.specs.Stop.{said};
+ghost use Rattle.sr_pcapng.specs.declared.stop.Stop.TheVariants as stop;
 
 use crate::NgNext;
+use sr_io::ReadFault;
 
 /// Why no packet comes. The offsets are those of the block in which it is found.
 #[derive(Clone, Copy, Debug, PartialEq, Eq)]
@@ -53,5 +55,13 @@ impl Stop {
             Stop::Major => NgNext::Major,
             Stop::TooMany { offset } => NgNext::TooMany { offset },
         }
+    }
+}
+
+impl From<ReadFault> for Stop {
+    ghost from_gives = { λ _ e. e ≡ stop.ReadFault };
+
+    fn from(_: ReadFault) -> Stop {
+        Stop::ReadFault
     }
 }

@@ -2,7 +2,7 @@ ghost use Rattle.std.specs.Prelude.{None};
 
 use crate::interface::Interface;
 use crate::{NgNext, NgReader};
-use sr_io::{Got, Source};
+use sr_io::{Got, Source, Window};
 use std::alloc::{AllocError, Global};
 use std::test::Fail;
 
@@ -21,6 +21,9 @@ const BIG: [u8; 104] = [
     120, 0, 0, 0, 0, 9, 0, 1, 9, 0, 0, 0, 0, 0, 0, 0, 0, 0, 0, 40, 0, 0, 0, 6, 0, 0, 0, 36, 0, 0,
     0, 0, 0, 0, 0, 1, 0, 0, 0, 0, 0, 0, 0, 2, 0, 0, 0, 2, 7, 8, 0, 0, 0, 0, 0, 36,
 ];
+
+// So many bytes are read at once at most.
+const ROOM: usize = 64;
 
 // Bytes that come in pieces of at most so many, the second part after the first. One of the calls may fail.
 #[derive(Debug, Drop)]
@@ -69,7 +72,7 @@ fn in_pieces<'a>(bytes: &'a [u8], then: &'a [u8], piece: usize, failing: u64) ->
 
 // The answers of three calls.
 fn three(alloc: Global, source: &mut Pieces<'_>) -> Result<[NgNext; 3], AllocError> {
-    let mut reader = NgReader::begin(alloc)?;
+    let mut reader = NgReader::begin(alloc, Window::new(alloc, ROOM)?)?;
     Ok([
         reader.next(source),
         reader.next(source),
@@ -175,7 +178,7 @@ fn sections(rt: HostRuntime) -> Result<(), Fail> {
 
 #[test]
 fn bytes_of_a_packet(rt: HostRuntime) -> Result<(), Fail> {
-    let mut reader = NgReader::begin(rt.alloc())?;
+    let mut reader = NgReader::begin(rt.alloc(), Window::new(rt.alloc(), ROOM)?)?;
     let mut source = in_pieces(&BIG, &LITTLE, 3, 0);
     let expected: [&[u8]; 3] = [&[7, 8], &[10, 20, 30, 40], &[]];
     for bytes in expected {
@@ -242,7 +245,7 @@ fn an_option_passes_its_block(rt: HostRuntime) -> Result<(), Fail> {
 #[test]
 fn a_call_fails(rt: HostRuntime) -> Result<(), Fail> {
     for call in 1..8u64 {
-        let answers = three(rt.alloc(), &mut in_pieces(&LITTLE, &[], 100, call))?;
+        let answers = three(rt.alloc(), &mut in_pieces(&LITTLE, &[], 12, call))?;
         assert_eq!(rt; answers, [NgNext::ReadFault; 3]);
     }
     Ok(())

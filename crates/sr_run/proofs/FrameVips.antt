@@ -9,8 +9,11 @@ use Rattle.sr_frame.specs.Tcp.{segment_seen, addressed}
 use Rattle.sr_frame.specs.Ipv4.{packet_seen, header_seen, payload_seen}
 use Rattle.sr_frame.specs.Ethernet.{ethernet_seen, tagged_seen, untagged_seen}
 use Rattle.sr_frame.specs.Frame.{seen}
-use Rattle.sr_pcap.specs.Records.{Frame}
-use Rattle.sr_run.specs.Capture.{packet_of, packets_from}
+use Rattle.sr_frame.specs.declared.skip.Skip.TheVariants.{NotIpv4}
+use Rattle.sr_capture.specs.declared.clock.Clock.{Clock}
+use Rattle.sr_capture.specs.Clock.{seen_at, time_of}
+use Rattle.sr_capture.specs.Packets.{kept_from, kept_of, seen_in}
+use Rattle.sr_capture.specs.Records.{Frame}
 
 -- what is seen is no packet, or one to virtual address 0
 unfoldable pub IsFirstVip : Seen → Type 0
@@ -71,12 +74,20 @@ ethernet_first vip bytes = search (skipped_or, tagged_first)
 seen_first : (vip : ℕ × ℕ) (link : ℕ) (bytes : List ℕ) → IsFirstVip (seen link bytes (vip ∷ []))
 seen_first vip link bytes = search (either_first, ethernet_first, packet_first)
 
-with_packet : (number : ℕ) (s : Seen) (packets : List Packet) → IsFirstVip s → AllFirstVip packets → AllFirstVip (packet_of number s ++ packets)
+unread_first : IsFirstVip (seen_as.Skipped NotIpv4)
 unfolding IsFirstVip
-with_packet number (seen_as.Packet key kind) packets first others = (first, others)
-with_packet number (seen_as.Skipped why) packets first others = others
+unread_first = tt
 
-pub packets_first : (link : ℕ) (vip : ℕ × ℕ) (number : ℕ) (frames : List Frame) → AllFirstVip (packets_from link vip number frames)
-packets_first link vip number [] = tt
-packets_first link vip number (frame ∷ frames) =
-    with_packet number (seen link frame.bytes (vip ∷ [])) (packets_from link vip (number + 1) frames) (seen_first vip link frame.bytes) (packets_first link vip (number + 1) frames)
+any_first : (vip : ℕ × ℕ) (link : ℕ) (bytes : List ℕ) → IsFirstVip (seen_in link bytes (vip ∷ []))
+any_first vip link bytes = either_first _ _ _ (seen_first vip link bytes) unread_first
+
+with_packet : (number ms : ℕ) (s : Seen) (packets : List Packet) → IsFirstVip s → AllFirstVip packets → AllFirstVip (kept_of (λ packet time. packet) number ms s ++ packets)
+unfolding IsFirstVip
+with_packet number ms (seen_as.Packet key kind) packets first others = (first, others)
+with_packet number ms (seen_as.Skipped why) packets first others = others
+
+pub packets_first : (vip : ℕ × ℕ) (clock : Clock) (number : ℕ) (frames : List Frame) → AllFirstVip (kept_from (λ packet time. packet) (vip ∷ []) clock number frames)
+packets_first vip clock number [] = tt
+packets_first vip clock number (frame ∷ frames) =
+    with_packet number (time_of (seen_at clock frame.ms)) (seen_in frame.link frame.bytes (vip ∷ [])) (kept_from (λ packet time. packet) (vip ∷ []) (seen_at clock frame.ms) (number + 1) frames)
+    (any_first vip frame.link frame.bytes) (packets_first vip (seen_at clock frame.ms) (number + 1) frames)

@@ -39,11 +39,11 @@ use Rattle.sr_law.proofs.Clauses.{none_broken}
 use Rattle.sr_law.proofs.Kept.{kept}
 use Rattle.sr_law.proofs.Switches.{newer}
 use Rattle.sr_frame.specs.declared.skip.Skip.{Skip}
-use Rattle.sr_run.specs.One.{one_lines, one_pools, one_setup, one_text, opening_line, packet_line, packet_lines, packets_in, skips_in, printed, printed_in, PrintsLawful}
-use Rattle.sr_run.specs.Capture.{packets_from, skips_from, records_behind}
+use Rattle.sr_run.specs.One.{one_lines, one_pools, one_setup, one_text, opening_line, packet_line, packet_lines, one_packets, one_skips, printed, printed_in, PrintsLawful}
+use Rattle.sr_capture.specs.Capture.{capture_of}
+use Rattle.sr_capture.specs.Clock.{new_clock}
+use Rattle.sr_capture.specs.Records.{Records}
 use Rattle.sr_text.specs.LineText.{log_text}
-use Rattle.sr_pcap.specs.declared.format.Format.{Format}
-use Rattle.sr_pcap.specs.Format.{header_of}
 use Rattle.sr_run.proofs.FrameVips.{AllFirstVip, packets_first}
 
 -- ---- what is true of the lines so far, the newest first
@@ -314,18 +314,17 @@ text_of_lines : (servers : ℕ) (skips : List (ℕ × Skip)) (packets : List Pac
 unfolding one_text
 text_of_lines servers skips packets = refl
 
--- of each capture whose header is taken
-pub prints_lawful : (vip : ℕ × ℕ) (servers : ℕ) (bytes : List ℕ) (format : Format) → 1 ≤ servers → header_of bytes ≡ Ok format → PrintsLawful vip servers bytes
+-- of each capture whose header isn't refused
+pub prints_lawful : (vip : ℕ × ℕ) (servers : ℕ) (bytes : List ℕ) (records : Records) → 1 ≤ servers → capture_of bytes ≡ Ok records → PrintsLawful vip servers bytes
 unfolding printed
-prints_lawful vip servers bytes format some header =
-    let skips = skips_in format vip bytes in
-    let packets = packets_in format vip bytes in
-    let lawful = one_is_lawful servers packets some (packets_first format.link vip 1 (records_behind format (drop 24 bytes)).frames) in (
-      format,
-      header,
+prints_lawful vip servers bytes records some captured =
+    let packets = one_packets vip records in
+    let lawful = one_is_lawful servers packets some (packets_first vip new_clock 1 records.frames) in (
+      records,
+      captured,
       record {
         lines = one_lines servers packets;
-        printed = ap (λ h. printed_in h vip servers (drop 24 bytes)) header ∙ text_of_lines servers skips packets;
+        printed = ap (λ r. printed_in r vip servers) captured ∙ text_of_lines servers (one_skips vip records) packets;
         lawful = lawful;
         kept = kept (one_setup servers packets) (endings_of (reverse (one_lines servers packets))) (one_lines servers packets) lawful.0;
         newer = newer (one_setup servers packets) (endings_of (reverse (one_lines servers packets))) (one_lines servers packets) lawful.0;

@@ -1,7 +1,6 @@
 mod AddressLists
 mod AuditedLines
 mod Auditing
-mod CaptureRecords
 mod CommandServers
 mod Digits
 mod FrameVips

@@ -1,5 +1,5 @@
 -- From what was read and printed to what a run of `one` says.
-use Rattle.std.proofs.Common.{◌≡◌, ℕ, ◌≤◌, List, [], drop, Option, Some, None, Ok, Err, inl, inr, refl, sym, ap, ◌∙◌, subst}
+use Rattle.std.proofs.Common.{◌≡◌, ℕ, ◌≤◌, List, [], ◌∷◌, Option, Some, None, Ok, Err, inl, inr, refl, sym, ap, ◌∙◌, subst}
 use Rattle.sr_io.specs.Sink.{SinkKnown, Adds, Writes}
 use Rattle.sr_io.specs.Source.{SourceKnown}
 use Rattle.sr_io.specs.declared.sink.Put.TheVariants as put
@@ -7,87 +7,92 @@ use Rattle.sr_io.specs.Faults.{Counts}
 use Rattle.sr_io.proofs.Adding.{adds_nothing}
 use Rattle.sr_io.proofs.Counting.{counts_as}
 use Rattle.sr_pcap.specs.declared.begin_refusal.BeginRefusal.{BeginRefusal}
-use Rattle.sr_pcap.specs.declared.format.Format.{Format}
-use Rattle.sr_pcap.specs.Format.{header_of}
-use Rattle.sr_run.specs.declared.capture.Captured.{Captured}
-use Rattle.sr_run.specs.declared.status.CaptureRefusal.{CaptureRefusal}
+use Rattle.sr_pcap.specs.declared.begin_refusal.BeginRefusal.TheVariants as begin
+use Rattle.sr_base.specs.declared.packet.Packet.{Packet}
+use Rattle.sr_capture.specs.declared.captured.Captured.{Captured}
+use Rattle.sr_capture.specs.Capture.{Keeps, Reads, capture_of}
+use Rattle.sr_capture.specs.Records.{Records}
+use Rattle.sr_capture.specs.declared.capture_refusal.CaptureRefusal.{CaptureRefusal}
 use Rattle.sr_run.specs.declared.status.Status.{Status}
 use Rattle.sr_run.specs.declared.status.Status.TheVariants.{Done, Usage, Script, Capture, ReadFault, WriteFault, Memory, Waiting, Breach}
-use Rattle.sr_run.specs.Capture.{Keeps, Reads, IsRead, header_refusal, records_behind, skips_from}
-use Rattle.sr_run.specs.One.{OneSays, EndsOne, PrintsLawful, one_text, refusal_of, refusal_in, printed, printed_in}
+use Rattle.sr_run.specs.Capture.{header_refusal, status_without}
+use Rattle.sr_run.specs.One.{OneSays, EndsOne, PrintsLawful, one_text, one_skips, refusal_of, refusal_in, printed, printed_in}
 use Rattle.sr_run.specs.Outside.{WritesNothing}
 use Rattle.sr_run.specs.Printing.{EndsPrinting}
 use Rattle.sr_run.proofs.LawfulLines.{prints_lawful}
 
--- a capture of which nothing was kept
-pub says_unread : (status : Status) (vip : ℕ × ℕ) (servers : ℕ) (xs : List ℕ) (source : SourceKnown) (sink : SinkKnown) → Reads (Err status) vip xs source.left → OneSays status vip servers xs source sink sink
+-- a capture whose header is refused
+says_refused : (why : BeginRefusal) (vip : ℕ × ℕ) (servers : ℕ) (xs : List ℕ) (source : SourceKnown) (sink : SinkKnown) → capture_of xs ≡ Err why
+    → OneSays (Capture (header_refusal why)) vip servers xs source sink sink
 unfolding refusal_of printed
-says_unread (Capture why) vip servers xs source sink (refused, header, is) = (
-  ap (λ h. refusal_in h (drop 24 xs)) header ∙ ap Some (sym is),
-  subst (λ t. Adds sink.taken sink.taken t) (sym (ap (λ h. printed_in h vip servers (drop 24 xs)) header)) (adds_nothing sink.taken),
-  inl (rw header refl),
+says_refused why vip servers xs source sink refused = (
+  ap refusal_in refused,
+  subst (λ t. Adds sink.taken sink.taken t) (sym (ap (λ r. printed_in r vip servers) refused)) (adds_nothing sink.taken),
+  inl (rw refused refl),
 )
-says_unread ReadFault vip servers xs source sink read = adds_nothing sink.taken
-says_unread Memory vip servers xs source sink read = adds_nothing sink.taken
-says_unread Done vip servers xs source sink read = absurd read
-says_unread Usage vip servers xs source sink read = absurd read
-says_unread (Script refusal) vip servers xs source sink read = absurd read
-says_unread WriteFault vip servers xs source sink read = absurd read
-says_unread (Waiting key) vip servers xs source sink read = absurd read
-says_unread (Breach line what) vip servers xs source sink read = absurd read
 
-pub ends_unread : (status : Status) → IsRead (Err status) → EndsOne status
-ends_unread (Capture why) read = tt
-ends_unread ReadFault read = tt
-ends_unread Memory read = tt
-ends_unread Done read = absurd read
-ends_unread Usage read = absurd read
-ends_unread (Script refusal) read = absurd read
-ends_unread WriteFault read = absurd read
-ends_unread (Waiting key) read = absurd read
-ends_unread (Breach line what) read = absurd read
+-- a capture of which nothing was kept
+pub says_unread : (why : BeginRefusal) (vip : ℕ × ℕ) (servers : ℕ) (xs : List ℕ) (source : SourceKnown) (sink : SinkKnown) → Reads (λ packet ms. packet) (Err why) (vip ∷ []) xs source.left
+    → OneSays (status_without why) vip servers xs source sink sink
+says_unread (begin.Truncated offset) vip servers xs source sink read = says_refused (begin.Truncated offset) vip servers xs source sink read
+says_unread begin.Magic vip servers xs source sink read = says_refused begin.Magic vip servers xs source sink read
+says_unread begin.Major vip servers xs source sink read = says_refused begin.Major vip servers xs source sink read
+says_unread begin.LinkType vip servers xs source sink read = says_refused begin.LinkType vip servers xs source sink read
+says_unread begin.ReadFault vip servers xs source sink read = adds_nothing sink.taken
+says_unread begin.Memory vip servers xs source sink read = adds_nothing sink.taken
+
+pub ends_unread : (why : BeginRefusal) → EndsOne (status_without why)
+ends_unread (begin.Truncated offset) = tt
+ends_unread begin.Magic = tt
+ends_unread begin.Major = tt
+ends_unread begin.LinkType = tt
+ends_unread begin.ReadFault = tt
+ends_unread begin.Memory = tt
 
 -- nothing was written then
-pub quiet_unread : (status : Status) (sink : SinkKnown) → IsRead (Err status) → WritesNothing status sink sink
-quiet_unread (Capture why) sink read = tt
-quiet_unread ReadFault sink read = adds_nothing sink.taken
-quiet_unread Memory sink read = adds_nothing sink.taken
-quiet_unread Done sink read = absurd read
-quiet_unread Usage sink read = absurd read
-quiet_unread (Script refusal) sink read = absurd read
-quiet_unread WriteFault sink read = absurd read
-quiet_unread (Waiting key) sink read = absurd read
-quiet_unread (Breach line what) sink read = absurd read
+pub quiet_unread : (why : BeginRefusal) (sink : SinkKnown) → WritesNothing (status_without why) sink sink
+quiet_unread (begin.Truncated offset) sink = tt
+quiet_unread begin.Magic sink = tt
+quiet_unread begin.Major sink = tt
+quiet_unread begin.LinkType sink = tt
+quiet_unread begin.ReadFault sink = adds_nothing sink.taken
+quiet_unread begin.Memory sink = adds_nothing sink.taken
 
-pub not_written : (status : Status) → IsRead (Err status) → status ≡ WriteFault → ⊥
-not_written (Capture why) read e = cc
-not_written ReadFault read e = cc
-not_written Memory read e = cc
-not_written Done read e = absurd read
-not_written Usage read e = absurd read
-not_written (Script refusal) read e = absurd read
-not_written WriteFault read e = absurd read
-not_written (Waiting key) read e = absurd read
-not_written (Breach line what) read e = absurd read
+pub not_written : (why : BeginRefusal) → status_without why ≡ WriteFault → ⊥
+not_written (begin.Truncated offset) e = cc e
+not_written begin.Magic e = cc e
+not_written begin.Major e = cc e
+not_written begin.LinkType e = cc e
+not_written begin.ReadFault e = cc e
+not_written begin.Memory e = cc e
+
+-- a read fault is the reader's
+pub fault_unread : (why : BeginRefusal) → status_without why ≡ ReadFault → why ≡ begin.ReadFault
+fault_unread (begin.Truncated offset) e = absurd (cc e)
+fault_unread begin.Magic e = absurd (cc e)
+fault_unread begin.Major e = absurd (cc e)
+fault_unread begin.LinkType e = absurd (cc e)
+fault_unread begin.ReadFault e = refl
+fault_unread begin.Memory e = absurd (cc e)
 
 -- a capture that was read, and what was printed of it
-pub says_read : (vip : ℕ × ℕ) (servers : ℕ) (xs : List ℕ) (source : SourceKnown) (before after : SinkKnown) (status : Status) (captured : Captured) (format : Format) → 1 ≤ servers
-    → header_of xs ≡ Ok format → Keeps format vip (drop 24 xs) source.left captured.skips.items captured.packets.items captured.ending
+pub says_read : (vip : ℕ × ℕ) (servers : ℕ) (xs : List ℕ) (source : SourceKnown) (before after : SinkKnown) (status : Status) (captured : Captured Packet) (records : Records) → 1 ≤ servers
+    → capture_of xs ≡ Ok records → Keeps (λ packet ms. packet) (vip ∷ []) records source.left captured
     → EndsPrinting status captured.ending (one_text servers captured.skips.items captured.packets.items) before after → OneSays status vip servers xs source before after
 unfolding refusal_of printed
-says_read vip servers xs source before after status captured format some header keeps ends = by_status status ends
+says_read vip servers xs source before after status captured records some taken keeps ends = by_status status ends
   where
     refusal : refusal_of xs ≡ captured.ending
-    refusal = ap (λ h. refusal_in h (drop 24 xs)) header ∙ sym keeps.ending_is
+    refusal = ap refusal_in taken ∙ sym keeps.ending
 
     text : one_text servers captured.skips.items captured.packets.items ≡ printed vip servers xs
     text =
-        ap (λ k. one_text servers k captured.packets.items) keeps.skips_are
-        ∙ ap (λ k. one_text servers (skips_from format.link vip 1 (records_behind format (drop 24 xs)).frames) k) keeps.packets_are
-        ∙ sym (ap (λ h. printed_in h vip servers (drop 24 xs)) header)
+        ap (λ k. one_text servers k captured.packets.items) keeps.skips
+        ∙ ap (λ k. one_text servers (one_skips vip records) k) keeps.packets
+        ∙ sym (ap (λ r. printed_in r vip servers) taken)
 
     lawful : PrintsLawful vip servers xs
-    lawful = prints_lawful vip servers xs format some header
+    lawful = prints_lawful vip servers xs records some taken
 
     by_status : (status : Status) → EndsPrinting status captured.ending (one_text servers captured.skips.items captured.packets.items) before after → OneSays status vip servers xs source before after
     by_status Done ends = (refusal ∙ ends.0, keeps.all ends.0, subst (λ t. Adds before.taken after.taken t) text ends.1.taken, lawful)

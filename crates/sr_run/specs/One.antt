@@ -1,9 +1,12 @@
 -- What the command `one` does: one pipe, one pool, every packet sent to the server that its key's hash picks.
-use Rattle.std.specs.Prelude.{◌≡◌, ◌⊎◌, ℕ, ◌+◌, List, [], ◌∷◌, drop, Option, Some, None, Result, Ok, Err, IsErr}
+use Rattle.std.specs.Prelude.{◌≡◌, ◌⊎◌, ℕ, ◌+◌, List, [], ◌∷◌, Option, Some, None, Result, Ok, Err, IsErr}
 use Rattle.std.specs.List.{range_with_len}
 use Rattle.std.specs.Option.{ForSome}
 use Rattle.sr_base.specs.declared.packet.Packet.{Packet}
 use Rattle.sr_base.specs.declared.shape.Shape.{Shape}
+use Rattle.sr_capture.specs.Capture.{capture_of}
+use Rattle.sr_capture.specs.Packets.{kept_in, skips_in}
+use Rattle.sr_capture.specs.Records.{Records}
 use Rattle.sr_frame.specs.declared.skip.Skip.{Skip}
 use Rattle.sr_hash.specs.Uses.{selected}
 use Rattle.sr_io.specs.Faults.{Counts}
@@ -15,12 +18,10 @@ use Rattle.sr_law.specs.declared.verdict.Verdict.TheVariants.{To}
 use Rattle.sr_law.specs.Pools.{VipPools}
 use Rattle.sr_law.specs.Setup.{SetupView}
 use Rattle.sr_pcap.specs.declared.begin_refusal.BeginRefusal.{BeginRefusal}
-use Rattle.sr_pcap.specs.declared.format.Format.{Format}
-use Rattle.sr_pcap.specs.Format.{header_of}
-use Rattle.sr_run.specs.declared.status.CaptureRefusal.{CaptureRefusal}
+use Rattle.sr_capture.specs.declared.capture_refusal.CaptureRefusal.{CaptureRefusal}
 use Rattle.sr_run.specs.declared.status.Status.{Status}
 use Rattle.sr_run.specs.declared.status.Status.TheVariants.{Done, Capture, ReadFault, WriteFault, Memory}
-use Rattle.sr_run.specs.Capture.{records_behind, ending_of, packets_from, skips_from, header_refusal}
+use Rattle.sr_run.specs.Capture.{header_refusal}
 use Rattle.sr_run.specs.LawfulLog.{IsLawfulLog}
 use Rattle.sr_run.specs.Outside.{Outside}
 use Rattle.sr_script.specs.Spelled.{default_shape}
@@ -60,38 +61,37 @@ one_lines servers packets = opening_line ∷ packet_lines servers 2 packets
 unfoldable pub one_text : ℕ → List (ℕ × Skip) → List Packet → List ℕ
 one_text servers skips packets = log_text skips (one_lines servers packets)
 
--- the refusal of a capture with this header, if it is refused
-abbrev pub refusal_in : Result Format BeginRefusal → List ℕ → Option CaptureRefusal
-refusal_in (Ok format) bytes = ending_of (records_behind format bytes).ending
-refusal_in (Err why) bytes = Some (header_refusal why)
+-- the packets and the skipped records of a capture
+abbrev pub one_packets : ℕ × ℕ → Records → List Packet
+one_packets vip records = kept_in (λ packet ms. packet) (vip ∷ []) records.frames
 
--- what is printed of a capture with this header
-abbrev pub printed_in : Result Format BeginRefusal → ℕ × ℕ → ℕ → List ℕ → List ℕ
-printed_in (Ok format) vip servers bytes =
-    let frames = (records_behind format bytes).frames in
-    one_text servers (skips_from format.link vip 1 frames) (packets_from format.link vip 1 frames)
-printed_in (Err why) vip servers bytes = []
+abbrev pub one_skips : ℕ × ℕ → Records → List (ℕ × Skip)
+one_skips vip records = skips_in (vip ∷ []) records.frames
 
--- the packets and the skipped records of a capture of this format
-abbrev pub packets_in : Format → ℕ × ℕ → List ℕ → List Packet
-packets_in format vip bytes = packets_from format.link vip 1 (records_behind format (drop 24 bytes)).frames
+-- the refusal of a capture with these records, if it is refused
+abbrev pub refusal_in : Result Records BeginRefusal → Option CaptureRefusal
+refusal_in (Ok records) = records.ending
+refusal_in (Err why) = Some (header_refusal why)
 
-abbrev pub skips_in : Format → ℕ × ℕ → List ℕ → List (ℕ × Skip)
-skips_in format vip bytes = skips_from format.link vip 1 (records_behind format (drop 24 bytes)).frames
+-- what is printed of a capture with these records
+abbrev pub printed_in : Result Records BeginRefusal → ℕ × ℕ → ℕ → List ℕ
+printed_in (Ok records) vip servers = one_text servers (one_skips vip records) (one_packets vip records)
+printed_in (Err why) vip servers = []
 
 -- why these bytes are refused, if they are
 unfoldable pub refusal_of : List ℕ → Option CaptureRefusal
-refusal_of bytes = refusal_in (header_of bytes) (drop 24 bytes)
+refusal_of bytes = refusal_in (capture_of bytes)
 
 -- what `one` prints of these bytes: of a capture that is refused in a record the whole records before it
 unfoldable pub printed : ℕ × ℕ → ℕ → List ℕ → List ℕ
-printed vip servers bytes = printed_in (header_of bytes) vip servers (drop 24 bytes)
+printed vip servers bytes = printed_in (capture_of bytes) vip servers
 
--- What `one` prints of these bytes, of a header that is taken, is the text of the skipped records and of lines that are lawful for its setup.
+-- What `one` prints of these bytes, of a capture whose header isn't refused, is the text of the skipped records and of lines that are lawful for its
+-- setup.
 abbrev pub PrintsLawful : ℕ × ℕ → ℕ → List ℕ → Type 0
 PrintsLawful vip servers bytes =
-    (format : Format) × (header_of bytes ≡ Ok format)
-    × IsLawfulLog (one_setup servers (packets_in format vip bytes)) (skips_in format vip bytes) (printed vip servers bytes)
+    (records : Records) × (capture_of bytes ≡ Ok records)
+    × IsLawfulLog (one_setup servers (one_packets vip records)) (one_skips vip records) (printed vip servers bytes)
 
 -- the statuses with which `one` ends: it reads a capture, and knows neither scripts nor rules of lines
 abbrev pub EndsOne : Status → Type 0
@@ -107,7 +107,7 @@ abbrev pub OneSays : Status → ℕ × ℕ → ℕ → List ℕ → SourceKnown 
 OneSays Done vip servers bytes source before after =
     (refusal_of bytes ≡ None) × (source.left ≡ Some []) × Adds before.taken after.taken (printed vip servers bytes) × PrintsLawful vip servers bytes
 OneSays (Capture why) vip servers bytes source before after =
-    (refusal_of bytes ≡ Some why) × Adds before.taken after.taken (printed vip servers bytes) × (IsErr (header_of bytes) ⊎ PrintsLawful vip servers bytes)
+    (refusal_of bytes ≡ Some why) × Adds before.taken after.taken (printed vip servers bytes) × (IsErr (capture_of bytes) ⊎ PrintsLawful vip servers bytes)
 OneSays ReadFault vip servers bytes source before after = Adds before.taken after.taken []
 OneSays WriteFault vip servers bytes source before after =
     (refusal_of bytes ≡ None → source.left ≡ Some []) × AddsFront before.taken after.taken (printed vip servers bytes) × PrintsLawful vip servers bytes

@@ -2,7 +2,7 @@
 use Rattle.std.specs.Prelude.{◌≡◌, ℕ, List, Option, Some, None}
 use Rattle.sr_io.specs.Sink.{SinkKnown, Writes}
 use Rattle.sr_io.specs.declared.sink.Put.TheVariants as put
-use Rattle.sr_run.specs.declared.status.CaptureRefusal.{CaptureRefusal}
+use Rattle.sr_capture.specs.declared.capture_refusal.CaptureRefusal.{CaptureRefusal}
 use Rattle.sr_run.specs.declared.status.Status.{Status}
 use Rattle.sr_run.specs.declared.status.Status.TheVariants.{Done, Capture, WriteFault}
 

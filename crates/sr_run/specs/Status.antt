@@ -9,8 +9,8 @@ use Rattle.sr_text.specs.declared.log_refusal.LogRefusal.{LogRefusal}
 use Rattle.sr_text.specs.declared.log_refusal.LogRefusal.TheVariants as log
 use Rattle.sr_run.specs.declared.status.Status.{Status}
 use Rattle.sr_run.specs.declared.status.Status.TheVariants.{Done, Usage, Script, Capture, ReadFault, WriteFault, Memory, Waiting, Breach}
-use Rattle.sr_run.specs.declared.status.CaptureRefusal.{CaptureRefusal}
-use Rattle.sr_run.specs.declared.status.CaptureRefusal.TheVariants.{Cut, TooLong, TooMany, Magic, Major, LinkType}
+use Rattle.sr_capture.specs.declared.capture_refusal.CaptureRefusal.{CaptureRefusal}
+use Rattle.sr_capture.specs.declared.capture_refusal.CaptureRefusal.TheVariants.{Cut, TooLong, TooMany, Block, Magic, Major, LinkType}
 
 -- the exit code
 abbrev pub code_of : Status → ℕ
@@ -35,6 +35,7 @@ abbrev pub capture_words : CaptureRefusal → List ℕ → List ℕ
 capture_words (Cut offset) rest = codes "cut at " ++ (decimal offset ++ rest)
 capture_words (TooLong offset) rest = codes "too long at " ++ (decimal offset ++ rest)
 capture_words (TooMany offset) rest = codes "too many at " ++ (decimal offset ++ rest)
+capture_words (Block offset) rest = codes "block at " ++ (decimal offset ++ rest)
 capture_words Magic rest = codes "magic" ++ rest
 capture_words Major rest = codes "major" ++ rest
 capture_words LinkType rest = codes "link type" ++ rest

@@ -5,14 +5,13 @@
 //! |---|---|
 //! | `top` | `run` |
 //! | `command`, `parting`, `servers`, `numbers` | the words: the command, its parts by the command-line library, and what stands among them |
-//! | `one`, with `capture`, `print_log` | the command `one`: a whole capture is read, then printed |
+//! | `one`, with `print_log` | the command `one`: a whole capture is read (`sr_capture`), then printed |
 //! | `make_capture` | the command `make` |
 //! | `audit`, with `script_text`, `numbering` | the command `audit`: the script, the log, and the records' numbers |
 //! | `status` | how a run ends |
 #![tactic(auto)]
 
 mod audit;
-mod capture;
 mod command;
 mod make_capture;
 mod numbering;
@@ -25,5 +24,6 @@ mod servers;
 mod status;
 mod top;
 
-pub use status::{CaptureRefusal, Status};
+pub use sr_capture::CaptureRefusal;
+pub use status::Status;
 pub use top::run;

@@ -1,15 +1,16 @@
 ghost use Rattle.std.specs.Prelude.{◌≡◌, ◌≤◌, length};
 ghost use Rattle.std.specs.Option.{ForSome};
 ghost use Rattle.sr_io.specs.Faults.{Counts};
-ghost use Rattle.sr_run.specs.Capture.{most_records};
+ghost use Rattle.sr_capture.specs.Capture.{most_records};
 ghost use Rattle.sr_run.specs.One.{EndsOne, OneSays, one_text};
 ghost use Rattle.sr_run.specs.Outside.{WritesNothing};
 ghost use Rattle.sr_run.specs.Printing.{EndsPrinting};
 ghost use Rattle.sr_run.specs.declared.status.Status.TheVariants as status;
 
 use crate::Status;
-use crate::capture::{Captured, read_capture};
 use crate::print_log::print_log;
+use sr_base::Packet;
+use sr_capture::{Captured, read_capture};
 use sr_io::{Sink, Source};
 use std::alloc::Global;
 
@@ -28,14 +29,14 @@ pub(crate) fn run_one<S: Source, K: Sink>(
     ensures source { Counts (result ≡ status.ReadFault) (S.known source.old).faults (S.known source.new).faults }
     ensures sink { Counts (result ≡ status.WriteFault) (K.known sink.old).faults (K.known sink.new).faults }
 {
-    match read_capture(alloc, vip, source) {
+    match read_capture(alloc, &[vip], source) {
         Ok(captured) => print_captured(servers, &captured, sink),
-        Err(status) => status,
+        Err(why) => Status::from(why),
     }
 }
 
 // Prints what was kept of a capture.
-fn print_captured<K: Sink>(servers: u8, captured: &Captured, sink: &mut K) -> Status
+fn print_captured<K: Sink>(servers: u8, captured: &Captured<Packet>, sink: &mut K) -> Status
     requires some { 1 ≤ servers }
     requires few { length captured.now.packets.items ≤ most_records }
     ensures { EndsPrinting result captured.now.ending (one_text servers captured.now.skips.items captured.now.packets.items) (K.known sink.old) (K.known sink.new) }

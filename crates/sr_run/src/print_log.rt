@@ -1,7 +1,7 @@
 ghost use Rattle.std.specs.Prelude.{◌≡◌, ◌+◌, ◌*◌, ◌^◌, ◌<◌, ◌≤◌, ℕ, List, length};
 ghost use Rattle.std.specs.List.{flat_map};
 ghost use Rattle.sr_io.specs.Sink.{Writes, put_of};
-ghost use Rattle.sr_run.specs.Capture.{most_records};
+ghost use Rattle.sr_capture.specs.Capture.{most_records};
 ghost use Rattle.sr_run.specs.One.{one_text, opening_line, packet_line, packet_lines};
 ghost use Rattle.sr_text.specs.LineText.{line_text, skip_text};
 

@@ -6,45 +6,12 @@ ghost use Rattle.sr_run.specs.Status.{code_of, status_of_log, status_text, captu
 ghost use Rattle.sr_run.specs.declared.status.Status.TheVariants as status;
 
 use sr_base::Key;
+use sr_capture::{BeginRefusal, CaptureRefusal};
 use sr_io::{Put, Sink, WriteFault};
 use sr_law::Clause;
-use sr_pcap::BeginRefusal;
 use sr_script::ScriptRefusal;
 use sr_text::{LineText, LogRefusal, put_key};
 use std::alloc::AllocError;
-use thiserror::Error;
-
-/// Why a capture was refused.
-#[derive(Clone, Copy, Debug, PartialEq, Eq, Error)]
-pub enum CaptureRefusal {
-    /// The input ends inside the header or the record that begins at this offset.
-    #[error("cut at {offset}")]
-    Cut {
-        /// In bytes from the capture's begin.
-        offset: u64,
-    },
-    /// The record at this offset has more than 262,144 captured bytes.
-    #[error("too long at {offset}")]
-    TooLong {
-        /// In bytes from the capture's begin.
-        offset: u64,
-    },
-    /// A record begins at this offset after 4,194,304 whole ones.
-    #[error("too many at {offset}")]
-    TooMany {
-        /// In bytes from the capture's begin.
-        offset: u64,
-    },
-    /// The magic isn't that of a classic capture (pcap 2.4).
-    #[error("magic")]
-    Magic,
-    /// The major version isn't 2.
-    #[error("major")]
-    Major,
-    /// The link type is neither Ethernet nor raw IP.
-    #[error("link type")]
-    LinkType,
-}
 
 /// How a run ended.
 #[derive(Debug, Drop, PartialEq, Eq)]
@@ -255,6 +222,7 @@ fn put_capture(why: CaptureRefusal, text: &mut LineText)
         CaptureRefusal::Cut { offset } => put_offset(b"cut at ", offset, text),
         CaptureRefusal::TooLong { offset } => put_offset(b"too long at ", offset, text),
         CaptureRefusal::TooMany { offset } => put_offset(b"too many at ", offset, text),
+        CaptureRefusal::Block { offset } => put_offset(b"block at ", offset, text),
         CaptureRefusal::Magic => text.word(b"magic"),
         CaptureRefusal::Major => text.word(b"major"),
         CaptureRefusal::LinkType => text.word(b"link type"),

@@ -1,5 +1,6 @@
 use Rattle.std.proofs.Common.{◌≡◌, ◌≤◌, ℕ, Err, take, drop, length, inr, ap, sym, ◌∙◌, arith}
 use Rattle.std.proofs.lemmas.Result.{err_from_is_err_and}
+use Rattle.sr_io.proofs.Counting.{counts_then, counts_as}
 use Rattle.sr_pcapng.specs.Front.{packet_of}
 use Rattle.sr_pcapng.proofs.Blocks.{gives_err, err_then, packet_err, packet_cut, packet_not_closed, packet_whole}
 use Rattle.sr_pcapng.proofs.block.read_packet.Goals as goal
@@ -46,3 +47,18 @@ returns-clause-reads g c = λ xs h.
           packet_whole c.args.section.now c.endian-endian.result c.args.offset c.args.size xs _ f.rest c.in_ok-head.head c.endian-endian.ensures head enough
           (ap (λ (n : ℕ). take n c.fill-2.new.into) (sym count) ∙ taken.1) f.same;
     }
+
+pub returns-then-branch-captured-clause-faults : goal.returns-then-branch-captured-clause-faults
+returns-then-branch-captured-clause-faults g c =
+    counts_then (c.in_ok-n.ensures.faults.still (λ e. absurd (cc e))) (counts_as (λ f. absurd (cc f)) (λ s. absurd (cc s)) c.in_ok-fill.ensures.faults)
+
+pub returns-in_err-close-clause-faults : goal.returns-in_err-close-clause-faults
+returns-in_err-close-clause-faults g c =
+    let r = err_from_is_err_and c.from_residual-in_err-close.result c.from_residual-in_err-close.ensures.1 in
+    counts_then (c.in_ok-fill.ensures.faults.still (λ e. absurd (cc e)) ∙ c.in_ok-n.ensures.faults.still (λ e. absurd (cc e)))
+    (counts_as (λ f. cc (r.1, r.2)) (λ s. cc (r.1, r.2)) c.in_err-close.ensures.faults)
+
+pub returns-clause-faults : goal.returns-clause-faults
+returns-clause-faults g c =
+    counts_then (c.in_ok-fill.ensures.faults.still (λ e. absurd (cc e)) ∙ c.in_ok-n.ensures.faults.still (λ e. absurd (cc e)))
+    (counts_as (λ f. absurd (cc f)) (λ s. absurd (cc s)) c.in_ok-close.ensures.faults)

@@ -1,5 +1,6 @@
 use Rattle.std.proofs.Common.{Err, drop, inr, ap, sym, ◌∙◌}
 use Rattle.std.proofs.lemmas.Result.{err_from_is_err_and}
+use Rattle.sr_io.proofs.Counting.{counts_then, counts_as}
 use Rattle.sr_pcapng.specs.Front.{header_of}
 use Rattle.sr_pcapng.proofs.Blocks.{gives_err, err_then, section_err, section_not_closed, section_whole}
 use Rattle.sr_pcapng.proofs.block.read_section.Goals as goal
@@ -31,3 +32,8 @@ returns-clause-reads g c = λ xs h.
       told = f.told;
       same = section_whole c.args.offset c.args.size.now xs (c.in_ok-endian.endian, c.in_ok-endian.size) _ f.rest head c.begin.ensures f.same;
     }
+
+pub returns-in_err-close-clause-faults : goal.returns-in_err-close-clause-faults
+returns-in_err-close-clause-faults g c =
+    let r = err_from_is_err_and c.from_residual-in_err-close.result c.from_residual-in_err-close.ensures.1 in
+    counts_then (c.in_ok-n.ensures.faults.still (λ e. absurd (cc e))) (counts_as (λ f. cc (r.1, r.2)) (λ s. cc (r.1, r.2)) c.in_err-close.ensures.faults)

@@ -1,5 +1,6 @@
 use Rattle.std.proofs.Common.{take, drop, Ok, Err, inr, ap, sym, subst, ◌∙◌}
 use Rattle.std.proofs.lemmas.Result.{err_from_is_err_and}
+use Rattle.sr_io.specs.Window.{Pending}
 use Rattle.sr_pcapng.specs.Options.{option_of}
 use Rattle.sr_pcapng.specs.Reading.{Steps}
 use Rattle.sr_pcapng.specs.declared.option_head.OptionHead.{OptionHead}
@@ -10,7 +11,7 @@ returns-in_err-option_head-clause-steps g c = λ xs h.
     let read = c.in_ok-n.ensures.bytes xs h in
     let r = err_from_is_err_and c.from_residual-in_err-option_head.result c.from_residual-in_err-option_head.ensures.1 in
     let head = option_of c.args.endian c.args.offset c.args.room in
-    subst (λ z. Steps z (head (take 4 xs)) c.args.resolution (drop 4 xs) (g.S.Source.known c.fill.new.source).left) (sym (r.1 ∙ ap (λ y. Err y) r.2))
+    subst (λ z. Steps z (head (take 4 xs)) c.args.resolution (drop 4 xs) (Pending c.fill.new.self (g.S.Source.known c.fill.new.source).left)) (sym (r.1 ∙ ap (λ y. Err y) r.2))
     (inr (ap head (sym read.1) ∙ sym c.in_err-option_head.ensures.option))
 
 pub returns-in-Last-clause-steps : goal.returns-in-Last-clause-steps

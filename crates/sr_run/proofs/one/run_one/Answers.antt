@@ -1,4 +1,8 @@
-use Rattle.sr_run.proofs.Running.{says_read, says_unread}
+use Rattle.std.proofs.Common.{ap, sym, subst, ◌∙◌}
+use Rattle.sr_io.proofs.Counting.{counts_as, counts_none}
+use Rattle.sr_run.specs.One.{EndsOne, OneSays}
+use Rattle.sr_run.specs.Outside.{WritesNothing}
+use Rattle.sr_run.proofs.Running.{says_read, says_unread, ends_unread, quiet_unread, not_written, fault_unread}
 use Rattle.sr_run.proofs.one.run_one.Goals as goal
 
 pub returns-in-Ok-clause-says : goal.returns-in-Ok-clause-says
@@ -9,4 +13,7 @@ returns-in-Ok-clause-says g c = λ xs e.
 
 pub returns-in-Err-clause-says : goal.returns-in-Err-clause-says
 returns-in-Err-clause-says g c = λ xs e.
-    says_unread c.in-Err.status c.args.vip c.args.servers xs (g.S.Source.known c.read_capture.new.source) (g.K.Sink.known c.args.sink.now) (c.in-Err.ensures.capture xs e)
+    let source = g.S.Source.known c.read_capture.new.source in
+    let sink = g.K.Sink.known c.args.sink.now in
+    subst (λ s. OneSays s c.args.vip c.args.servers xs source sink sink) (sym c.from.ensures)
+    (says_unread c.in-Err.why c.args.vip c.args.servers xs source sink (c.in-Err.ensures.capture xs e))

@@ -1,0 +1,6 @@
+pub mod Capture
+pub mod Clock
+pub mod Packets
+pub mod Reader
+pub mod Record
+pub mod Records
