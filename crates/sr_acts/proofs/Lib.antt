@@ -7,3 +7,4 @@ pub mod Begun
 pub mod Opening
 pub mod Sweeps
 pub mod Takes
+pub mod Turns

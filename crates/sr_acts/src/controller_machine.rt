@@ -351,7 +351,7 @@ fn opening_line(vip: u8) -> Line
 }
 
 // Whether no job is set.
-fn is_free(job: &Job) -> bool
+pub(crate) fn is_free(job: &Job) -> bool
     ensures { result ≡ is_free job.now }
 {
     match job {

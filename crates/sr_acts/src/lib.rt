@@ -11,6 +11,7 @@
 //! | What it begins, and what its jobs name | `starting`, `beginning` | `Starts`, `Fits` |
 //! | Which word its step is made on, and what is stored | `acting`, `deciding`, `words` | |
 //! | What it knows after a tick, a store, a wait and a taken word | `drawing`, `storing`, `waiting`, `taking` | |
+//! | What a step ends, and for which key an update waits | `turning` | |
 #![tactic(auto)]
 
 mod acting;
@@ -28,6 +29,7 @@ mod plain_book;
 mod starting;
 mod storing;
 mod taking;
+mod turning;
 mod versions;
 mod waiting;
 mod words;

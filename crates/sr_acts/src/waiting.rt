@@ -97,7 +97,7 @@ impl ControllerMachine {
 // ---- a pipe's packet
 
 // Whether there is a pipe after this one.
-fn has_next(layout: &Layout, pipe: u8) -> bool
+pub(crate) fn has_next(layout: &Layout, pipe: u8) -> bool
     requires { pipe < layout.now.shape.pipes }
     ensures { result ≡ has_next layout.now pipe }
 {
