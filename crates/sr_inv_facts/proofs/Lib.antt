@@ -9,5 +9,7 @@ pub mod Plain
 pub mod Printing
 pub mod Ranges
 pub mod Reading
+pub mod Sums
 pub mod Takes
 pub mod Taking
+pub mod Windows

@@ -3,7 +3,10 @@ use Rattle.std.proofs.Common.{◌≡◌, ℕ, Bool, true, false, ◌≢◌, List
 use Rattle.std.proofs.lemmas.Bool.Decides.{nat_tests}
 use Rattle.std.proofs.lemmas.Option.{slice_get_within, same_Some}
 use Rattle.sr_inv_facts.specs.Readings.{EachPipe, SomePipe}
+use Rattle.sr_machine.specs.Pipe.{is_idle}
 use Rattle.sr_machine.specs.declared.pipe_view.PipeView.{PipeView}
+use Rattle.sr_machine.specs.declared.stage.Stage.{Stage}
+use Rattle.sr_machine.specs.declared.stage.Stage.TheVariants.{Idle}
 use Rattle.sr_update.proofs.Rows.{get_set_same, get_set_other}
 
 module _ (pipes : List PipeView) (p : ℕ) (v w : PipeView) (is : slice_get pipes p ≡ Some v) where
@@ -44,3 +47,8 @@ module _ (pipes : List PipeView) (p : ℕ) (v w : PipeView) (is : slice_get pipe
 pub each_then : (P Q : ℕ → PipeView → Type 0) (pipes : List PipeView)
     → ((q : ℕ) (u : PipeView) → slice_get pipes q ≡ Some u → P q u → Q q u) → EachPipe P pipes → EachPipe Q pipes
 each_then P Q pipes turn all q u e = turn q u e (all q u e)
+
+-- a pipe into which a packet may come has none in hand
+pub idle : (a : Stage) → is_idle a ≡ true → a ≡ Idle
+idle Idle e = refl
+idle a e = cc

@@ -87,7 +87,7 @@ pipes_times t [] = omega arith
 pipes_times t (v ∷ rest) =
     omega (arith, pipes_times t rest, times_joined t v.lines (pipe_lines rest), sum_by-cons (pipe_times t) v rest)
 
-below_next : (t next : ℕ) → 1 ≤ below t next → t < next
+pub below_next : (t next : ℕ) → 1 ≤ below t next → t < next
 below_next t next h = at (nat_lt 0 t) (nat_lt t next) refl refl h
   where
     at : (a b : Bool) → nat_lt 0 t ≡ a → nat_lt t next ≡ b → 1 ≤ (if a && b then 1 else 0) → t < next

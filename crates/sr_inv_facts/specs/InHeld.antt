@@ -31,8 +31,13 @@ pub record Waiting : Type 0 where
   pub key : KeyView
   pub entered : ℕ
 
+-- it waits, if its verdict was that it was held
+abbrev pub held_as : Verdict → Waiting → List Waiting
+held_as (verdict.Held why) w = w ∷ []
+held_as v w = []
+
 abbrev pub held_in_line : Line → List Waiting
-held_in_line (line.Packet number entered out pipe key kind (verdict.Held why)) = record { key = key; entered = entered } ∷ []
+held_in_line (line.Packet number entered out pipe key kind v) = held_as v (record { key = key; entered = entered })
 held_in_line l = []
 
 abbrev pub held_in_lines : List Line → List Waiting
@@ -41,7 +46,7 @@ held_in_lines (l ∷ rest) = held_in_line l ++ held_in_lines rest
 
 -- one whose line isn't drawn yet, though its report is stored
 abbrev pub held_at : Stage → List Waiting
-held_at (stage.Fly f (leg.Judged (verdict.Held why) last.Out)) = record { key = f.packet.key; entered = f.entered } ∷ []
+held_at (stage.Fly f (leg.Judged v last.Out)) = held_as v (record { key = f.packet.key; entered = f.entered })
 held_at at = []
 
 -- those of a pipe, in the order in which they were reported

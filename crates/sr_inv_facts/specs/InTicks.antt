@@ -69,12 +69,12 @@ Rise low (l ∷ rest) = (low < out_of l) × Rise (out_of l) rest
 abbrev pub AllOutBefore : ℕ → List Line → Type 0
 AllOutBefore tick lines = AllByRecursion (λ l. out_of l < tick) lines
 
--- a packet entered after its pipe's lines were out
+-- a packet entered after its pipe's lines were out, and fewer than 2^32 packets came
 pub record PipeInTime (pipe : ℕ) (v : PipeView) : Type 0 where
   pub own : AllByRecursion (IsOfPipe pipe) v.lines
   pub rise : Rise 0 v.lines
   pub entered : OnEntered v.stage (λ tick. AllOutBefore tick v.lines)
-  pub few : length v.lines + is_busy v.stage ≤ 2 ^ 32
+  pub few : length v.lines + is_busy v.stage < 2 ^ 32
 
 -- of the tick at which a sweep began
 abbrev pub OnSweep : Job → (ℕ → Type 0) → Type 0

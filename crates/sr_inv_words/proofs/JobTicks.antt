@@ -10,7 +10,7 @@ use Rattle.sr_inv_facts.specs.Invariant.{Invariant}
 use Rattle.sr_inv_facts.specs.Readings.{EachPipe, ring_words}
 use Rattle.sr_inv_words.proofs.PipeTicks.{NotesAre, TickIs, next_tick, tick_room}
 use Rattle.sr_inv_words.proofs.PipeWords.{RingsHold}
-use Rattle.sr_inv_words.proofs.Windows.{reports_same, window_kept, window_take}
+use Rattle.sr_inv_facts.proofs.Windows.{reports_same, window_kept, window_take}
 use Rattle.sr_machine.specs.Core.{Core}
 use Rattle.sr_machine.specs.Deciding.{ring_count}
 use Rattle.sr_machine.specs.Jobs.{job_op}

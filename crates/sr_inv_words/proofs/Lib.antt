@@ -6,12 +6,10 @@ pub mod PipeTicks
 pub mod PipeWords
 pub mod PoolWords
 pub mod Rising
-pub mod Sums
 pub mod TableJobs
 pub mod Tables
 pub mod TicksKept
 pub mod TicksOpen
 pub mod VersionJobs
-pub mod Windows
 pub mod WordsKept
 pub mod WordsOpen

@@ -5,7 +5,7 @@ use Rattle.sr_inv_facts.proofs.Pipes.{each_set, each_turns}
 use Rattle.sr_inv_facts.specs.InWords.{note_of, pipe_ticks, stage_ticks, ticks_of}
 use Rattle.sr_inv_facts.specs.Invariant.{Invariant}
 use Rattle.sr_inv_facts.specs.Readings.{EachPipe}
-use Rattle.sr_inv_words.proofs.Sums.{sum_at, sum_most}
+use Rattle.sr_inv_facts.proofs.Sums.{sum_at, sum_most}
 use Rattle.sr_law.specs.declared.line.Line.{Line}
 use Rattle.sr_machine.specs.Core.{Core}
 use Rattle.sr_machine.specs.Keeping.{AfterStage}

@@ -16,7 +16,7 @@ use Rattle.sr_inv_facts.specs.Invariant.{Invariant}
 use Rattle.sr_inv_facts.specs.Readings.{EachPipe, bit_words, ring_words}
 use Rattle.sr_inv_words.proofs.Marking.{recording_uncleared}
 use Rattle.sr_inv_words.proofs.PoolWords.{FilterIs, words_other}
-use Rattle.sr_inv_words.proofs.Windows.{reports_same, window_push}
+use Rattle.sr_inv_facts.proofs.Windows.{reports_same, window_push}
 use Rattle.sr_law.specs.declared.verdict.Verdict.{Verdict}
 use Rattle.sr_machine.specs.Core.{Core, printed}
 use Rattle.sr_machine.specs.Deciding.{ring_count}

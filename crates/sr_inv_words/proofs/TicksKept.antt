@@ -6,9 +6,10 @@ use Rattle.sr_base.specs.declared.packet.Packet.{Packet}
 use Rattle.sr_base.specs.declared.place.Place.{Place}
 use Rattle.sr_inv_facts.proofs.Beginning.{begun_by}
 use Rattle.sr_inv_facts.proofs.Lists.{all_front, all_more, all_back}
-use Rattle.sr_inv_facts.proofs.Pipes.{each_set}
+use Rattle.sr_inv_facts.proofs.Pipes.{each_set, idle}
 use Rattle.sr_inv_facts.proofs.Plain.{plain_cleared, plain_phase}
 use Rattle.sr_inv_facts.proofs.Printing.{all_out, line_out}
+use Rattle.sr_inv_facts.proofs.Sums.{sum_at}
 use Rattle.sr_inv_facts.specs.Fitted.{IsPacket}
 use Rattle.sr_inv_facts.specs.Flying.{OnEntered}
 use Rattle.sr_inv_facts.specs.InTicks.{same, AllOutBefore, ControllerInTime, IsOfPipe, PipeInTime, below, pipe_times, stage_times, times, InTicks, OnSweep, Rise, job_times, lines_times}
@@ -19,8 +20,6 @@ use Rattle.sr_inv_words.proofs.Counted.{grows, line_more, IsDraw, draw_times, go
 use Rattle.sr_inv_words.proofs.OtherJobs.{AtOp}
 use Rattle.sr_inv_words.proofs.PipeTicks.{next_tick, tick_room}
 use Rattle.sr_inv_words.proofs.Rising.{lines_among, rise_more, goes_sweep, line_own, none_sweeps, take_more}
-use Rattle.sr_inv_words.proofs.Sums.{sum_at}
-use Rattle.sr_inv_words.proofs.WordsKept.{idle}
 use Rattle.sr_law.specs.Ticks.{out_of, is_controller}
 use Rattle.sr_law.specs.declared.line.Line.{Line}
 use Rattle.sr_machine.proofs.Following.{goes}
@@ -118,8 +117,8 @@ module _ (s : Core) (i : Invariant s) (p : ℕ) (v : PipeView) (q : slice_get s.
   entered_at : (a : Stage) → v.stage ≡ a → OnEntered a (λ tick. AllOutBefore tick v.lines)
   entered_at a e = subst (λ z. OnEntered z (λ tick. AllOutBefore tick v.lines)) e was.entered
 
-  busy_at : (a : Stage) → v.stage ≡ a → length v.lines + is_busy a ≤ 2 ^ 32
-  busy_at a e = subst (λ z. length v.lines + is_busy z ≤ 2 ^ 32) e was.few
+  busy_at : (a : Stage) → v.stage ≡ a → length v.lines + is_busy a < 2 ^ 32
+  busy_at a e = subst (λ z. length v.lines + is_busy z < 2 ^ 32) e was.few
 
   timed_stage : (a : Stage) → v.stage ≡ a → AfterStage PipesTimed s p v a (pipe_op s.config.layout v a)
   timed_stage Idle e = tt

@@ -8,7 +8,7 @@ use Rattle.sr_inv_facts.proofs.Lists.{ranged_at}
 use Rattle.sr_inv_facts.proofs.OpeningLines.{given_all}
 use Rattle.sr_inv_facts.specs.InTicks.{InTicks, PipeInTime, Rise, line_times, lines_times, pipe_times}
 use Rattle.sr_inv_facts.specs.Laws.{OpensWith}
-use Rattle.sr_inv_words.proofs.Sums.{sum_most}
+use Rattle.sr_inv_facts.proofs.Sums.{sum_most}
 use Rattle.sr_law.specs.Ticks.{is_controller}
 use Rattle.sr_machine.specs.Config.{Config}
 use Rattle.sr_machine.specs.Opening.{opening_line, opening_controller, opening_pipes, opening_words}

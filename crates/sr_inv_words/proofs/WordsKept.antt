@@ -3,6 +3,7 @@ use Rattle.std.proofs.Common.{◌≡◌, ℕ, Bool, true, false, not, ◌&&◌, 
 use Rattle.sr_base.specs.declared.packet.Packet.{Packet}
 use Rattle.sr_base.specs.declared.place.Place.{Place}
 use Rattle.sr_inv_facts.proofs.Beginning.{begun_by}
+use Rattle.sr_inv_facts.proofs.Pipes.{idle}
 use Rattle.sr_inv_facts.specs.Fitted.{IsPacket}
 use Rattle.sr_inv_facts.specs.InWords.{ClearedBelow, InWords, IsCleared, WordsHold, Written, down_word, is_downing, job_word, note_of, stage_ticks, table_word}
 use Rattle.sr_inv_facts.specs.Invariant.{Invariant}
@@ -27,7 +28,7 @@ use Rattle.sr_machine.specs.declared.name.Name.{Name}
 use Rattle.sr_machine.specs.declared.op.Op.{Op}
 use Rattle.sr_machine.specs.declared.pipe_view.PipeView.{PipeView}
 use Rattle.sr_machine.specs.declared.stage.Stage.{Stage}
-use Rattle.sr_machine.specs.declared.stage.Stage.TheVariants.{Idle, Enter}
+use Rattle.sr_machine.specs.declared.stage.Stage.TheVariants.{Enter}
 use Rattle.sr_machine.specs.Begins as begin
 use Rattle.sr_machine.specs.declared.job.Job.TheVariants as job
 
@@ -101,10 +102,6 @@ begins_kept s f = record {
 }
 
 -- ---- a packet enters
-
-pub idle : (a : Stage) → is_idle a ≡ true → a ≡ Idle
-idle Idle e = refl
-idle a e = cc
 
 enter_kept : (s : Core) (p : ℕ) (v : PipeView) (packet : Packet) → slice_get s.pipes p ≡ Some v → is_idle v.stage ≡ true → Invariant s
     → InWords (record s { pipes = slice_set s.pipes p (record v { stage = Enter packet }) })

@@ -10,7 +10,7 @@ use Rattle.sr_inv_facts.proofs.Lists.{all_got, all_same, got_or, ranged_at}
 use Rattle.sr_inv_facts.specs.Fitted.{IsFitted}
 use Rattle.sr_inv_facts.specs.InWords.{HoldsPool, InWords, note_of, pipe_ticks, ticks_of}
 use Rattle.sr_inv_facts.specs.Laws.{OpensWith}
-use Rattle.sr_inv_words.proofs.Sums.{sum_most}
+use Rattle.sr_inv_facts.proofs.Sums.{sum_most}
 use Rattle.sr_law.specs.Pools.{pool_of, pools_from}
 use Rattle.sr_machine.specs.Config.{Config}
 use Rattle.sr_machine.specs.Deciding.{named_at, ring_count}

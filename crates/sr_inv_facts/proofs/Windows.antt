@@ -67,7 +67,7 @@ module _ (l : LayoutView) (ring after : ℕ → ℕ) (taken pushed : ℕ) (holds
           subst (IsReport l) (sym (this_cell x (pushed % l.shape.ring) (n % l.shape.ring) is same)) report
 
   -- where the first cell isn't empty, there is a report
-  some_left : 0 < l.shape.ring → ring (taken % l.shape.ring) ≢ 0 → taken < pushed
+  pub some_left : 0 < l.shape.ring → ring (taken % l.shape.ring) ≢ 0 → taken < pushed
   some_left big full = at (cases_lt taken pushed)
     where
       at : (taken < pushed) ⊎ (pushed ≤ taken) → taken < pushed
