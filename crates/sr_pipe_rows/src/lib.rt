@@ -1,0 +1,9 @@
+//! Rows of a pipe over plain words, as tests.
+#![tactic(auto)]
+
+#[cfg(test)]
+mod longest;
+#[cfg(test)]
+mod rows;
+#[cfg(test)]
+mod scene;
