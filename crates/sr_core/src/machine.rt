@@ -1,19 +1,20 @@
-ghost use Rattle.std.specs.Prelude.{◌≡◌, ◌≤◌, ℕ, IfOk, if◌then◌else◌};
+ghost use Rattle.std.specs.Prelude.{◌≡◌, ◌≤◌, ℕ, IfOk, if◌then◌else◌, option_map};
 ghost use Rattle.std.specs.List.{list_all};
 ghost use Rattle.sr_base.specs.WordName.{HasWord, word_at};
-ghost use Rattle.sr_core.specs.HeldCore.{IsActorOf, Shows, StepsTo, lines_by, state_of};
+ghost use Rattle.sr_core.specs.HeldCore.{ControlsTo, IsActorOf, Shows, StepsTo, lines_by, state_of};
 ghost use Rattle.sr_core.specs.HeldPipes.{is_idle_at};
 ghost use Rattle.sr_core.specs.PlainWords.{ShowsWords};
 ghost use Rattle.sr_machine.specs.Core.{opening, step_event};
 ghost use Rattle.sr_machine.specs.Pipe.{is_idle};
+ghost use Rattle.sr_machine.specs.Settling.{awaited};
 ghost use Rattle.sr_machine.specs.declared.actor.Actor.TheVariants as actor;
 ghost use Rattle.sr_machine.specs.declared.event.Event.TheVariants.{Step as ToStep};
 ghost use Rattle.sr_machine.specs.declared.name.Name.{Name as AName};
 ghost use Rattle.sr_machine.specs.declared.stepped.Stepped.TheVariants.{Made, NotNow};
 
-use crate::{Pipes, PlainWords};
+use crate::{Controlled, Pipes, PlainWords};
 use sr_acts::{ControllerMachine, MachineConfig};
-use sr_base::{WordName, layout_ranges};
+use sr_base::{Key, WordName, layout_ranges};
 use sr_law::Line;
 use sr_machine::{Actor, Event, Stepped};
 use std::alloc::{AllocError, Global};
@@ -98,16 +99,33 @@ impl Core {
         ensures { (words : AName → ℕ) → ShowsWords self.old.config.layout self.old.words words
             → StepsTo result (step_event (ToStep actor.Controller) (state_of self.old words)) self.old self.new }
     {
+        match self.control() {
+            Controlled::Made => Stepped::Made,
+            Controlled::Ended(_) => Stepped::Made,
+            Controlled::NotNow => Stepped::NotNow,
+            Controlled::Memory => Stepped::Memory,
+        }
+    }
+
+    /// Makes the next step of the controller, and tells what it ended.
+    pub fn control(&mut self) -> Controlled
+        ensures { (words : AName → ℕ) → ShowsWords self.old.config.layout self.old.words words
+            → ControlsTo result (state_of self.old words) self.old self.new }
+    {
         match self.controller.next() {
             Some(op) => {
                 if self.controller.reserve().is_err() {
-                    return Stepped::Memory;
+                    return Controlled::Memory;
                 }
                 let answer = self.words.make(op);
+                let end = self.controller.ends(answer);
                 self.controller.after(answer);
-                Stepped::Made
+                match end {
+                    Some(turn) => Controlled::Ended(turn),
+                    None => Controlled::Made,
+                }
             }
-            None => Stepped::NotNow,
+            None => Controlled::NotNow,
         }
     }
 
@@ -133,6 +151,13 @@ impl Core {
         ensures { result ≡ list_all (λ v. is_idle v.stage) self.now.pipes }
     {
         self.pipes.all_idle()
+    }
+
+    /// The first key for which the update that is under way waits.
+    pub fn awaited(&self) -> Option<Key>
+        ensures { result ≡ option_map (λ e. e.key) (awaited self.now.controller) }
+    {
+        self.controller.awaited()
     }
 
     /// The lines of an actor so far, in the order of their ticks.
