@@ -18,7 +18,6 @@ use Rattle.sr_machine.specs.Core.{Core, printed}
 use Rattle.sr_machine.specs.Deciding.{learned, named_at, update_pool, vip_at}
 use Rattle.sr_machine.specs.Reads.{steady}
 use Rattle.sr_machine.specs.Stores.{phase_word}
-use Rattle.sr_machine.specs.declared.controller_view.ControllerView.{ControllerView}
 use Rattle.sr_machine.specs.declared.job.Job.{Job}
 use Rattle.sr_machine.specs.declared.pool_update.PoolUpdate.{PoolUpdate}
 use Rattle.sr_machine.specs.declared.wait.Wait.{Wait}
@@ -180,17 +179,17 @@ IsAtLeisure job.Free = Unit {0}
 IsAtLeisure (job.Look pipe) = Unit {0}
 IsAtLeisure j = ⊥
 
-pub record MayBeRefused (versions : ℕ) (c : ControllerView) : Type 0 where
-  pub update : c.update ≡ None
-  pub leisure : IsAtLeisure c.job
-  pub full : NothingFree versions c.numbers c.book.entries c.gives
+pub record MayBeRefused (versions : ℕ) (update : Option PoolUpdate) (numbers : NumberRows) (entries : List Entry) (gives : List GiveChange) (j : Job) : Type 0 where
+  pub none : update ≡ None
+  pub leisure : IsAtLeisure j
+  pub full : NothingFree versions numbers entries gives
 
-pub record IsRefused (k : Config) (c : ControllerView) (change : ℕ) : Type 0 where
-  pub update : c.update ≡ None
+pub record IsRefused (k : Config) (update : Option PoolUpdate) (numbers : NumberRows) (entries : List Entry) (gives : List GiveChange) (change : ℕ) : Type 0 where
+  pub none : update ≡ None
   pub vip : ℕ
   pub below : vip < k.layout.vips
-  pub full : AllTaken k.layout.shape.versions c.numbers c.book.entries vip
-  pub later : AllByRecursion (λ g. change < g.position) c.gives
+  pub full : AllTaken k.layout.shape.versions numbers entries vip
+  pub later : AllByRecursion (λ g. change < g.position) gives
 
 -- of the change whose refusal is about to be printed
 abbrev pub OnRefused : Job → (ℕ → Type 0) → Type 0
@@ -259,20 +258,20 @@ pub record VersionsHold (k : Config) (lines : List Line) (update : Option PoolUp
   pub used : AllByRecursion (λ e. is_used numbers e.key.vip e.version ≡ true) entries
   pub waited : JobWaited entries numbers mark j
 
-pub record ChangesHold (k : Config) (lines : List Line) (c : ControllerView) : Type 0 where
-  pub refusing : c.refusing ≡ true → MayBeRefused k.layout.shape.versions c
-  pub refused : OnRefused c.job (IsRefused k c)
-  pub unrefused : OnRefused c.job (λ change. list_any (refused_past change) lines ≡ false)
-  pub to_come : AllByRecursion (IsToCome lines) c.gives
-  pub update : OnUngiven c.update c.job (λ u. list_any (was_given_past u.vip u.pool) lines ≡ false)
-  pub after : OnUngiven c.update c.job (λ u. AllByRecursion (λ g. g.vip ≡ u.vip → u.pool < g.pool) c.gives)
+pub record ChangesHold (k : Config) (lines : List Line) (update : Option PoolUpdate) (vips : List VipWord) (numbers : NumberRows) (entries : List Entry) (gives : List GiveChange) (refusing : Bool) (j : Job) : Type 0 where
+  pub may_refuse : refusing ≡ true → MayBeRefused k.layout.shape.versions update numbers entries gives j
+  pub refused : OnRefused j (IsRefused k update numbers entries gives)
+  pub unrefused : OnRefused j (λ change. list_any (refused_past change) lines ≡ false)
+  pub to_come : AllByRecursion (IsToCome lines) gives
+  pub new : OnUngiven update j (λ u. list_any (was_given_past u.vip u.pool) lines ≡ false)
+  pub after : OnUngiven update j (λ u. AllByRecursion (λ g. g.vip ≡ u.vip → u.pool < g.pool) gives)
   pub enough : k.layout.vips ≤ length lines
-  pub group : group_by c.update c.vips c.job (last_of_update (after_gives k.layout.vips lines)) ≡ true
+  pub group : group_by update vips j (last_of_update (after_gives k.layout.vips lines)) ≡ true
 
 pub record InUpdate (s : Core) : Type 0 where
   pub update : UpdateHolds s.config s.controller.update s.controller.vips s.controller.job
   pub versions : VersionsHold s.config (printed s) s.controller.update s.controller.vips s.controller.numbers s.controller.named s.controller.book.entries s.controller.mark s.controller.job
-  pub changes : ChangesHold s.config (printed s) s.controller
+  pub changes : ChangesHold s.config (printed s) s.controller.update s.controller.vips s.controller.numbers s.controller.book.entries s.controller.gives s.controller.refusing s.controller.job
 
 -- its first part alone: the update and its phase
 abbrev pub PhasesHold : Core → Type 0
@@ -281,3 +280,8 @@ PhasesHold s = UpdateHolds s.config s.controller.update s.controller.vips s.cont
 -- its second part alone: the versions
 abbrev pub VersionsKept : Core → Type 0
 VersionsKept s = VersionsHold s.config (printed s) s.controller.update s.controller.vips s.controller.numbers s.controller.named s.controller.book.entries s.controller.mark s.controller.job
+
+-- its third part alone: the changes and the open group of lines
+abbrev pub ChangesKept : Core → Type 0
+ChangesKept s =
+    ChangesHold s.config (printed s) s.controller.update s.controller.vips s.controller.numbers s.controller.book.entries s.controller.gives s.controller.refusing s.controller.job

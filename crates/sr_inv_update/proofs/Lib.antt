@@ -1,6 +1,13 @@
+pub mod ChangeBegins
+pub mod ChangeEvents
 pub mod Changes
+pub mod ChangesKept
+pub mod GivesRise
+pub mod GroupSteps
+pub mod Groups
 pub mod Phases
 pub mod PhasesKept
+pub mod Refusable
 pub mod Rows
 pub mod VersionBegins
 pub mod VersionEntries

@@ -35,13 +35,13 @@ use Rattle.sr_machine.specs.declared.job.Job.TheVariants as job
 
 -- ---- whether the Given line is still to come
 
-phase_given : (u : PoolUpdate) (p : Phase) → is_ungiven (phase_job u p) ≡ false
+pub phase_given : (u : PoolUpdate) (p : Phase) → is_ungiven (phase_job u p) ≡ false
 phase_given u Steady = refl
 phase_given u Recording = refl
 phase_given u Holding = refl
 phase_given u Transit = refl
 
-vip_given : (u : PoolUpdate) (p : Phase) → is_ungiven (job.Draw (vip_draw u p)) ≡ false
+pub vip_given : (u : PoolUpdate) (p : Phase) → is_ungiven (job.Draw (vip_draw u p)) ≡ false
 vip_given u Steady = refl
 vip_given u Recording = refl
 vip_given u Holding = refl
