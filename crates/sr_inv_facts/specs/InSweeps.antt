@@ -213,11 +213,16 @@ ClosesHold l ring rings pipes lines j =
 
 -- ---- all of it
 
+-- sweeps are counted as the lines tell, each comes no sooner than the idle time after the last one, and a key that is just made live has no
+-- quiet sweep yet
+pub record SweepsCounted (k : Config) (sweeps swept_ms : ℕ) (entries : List Entry) (j : Job) (lines : List Line) : Type 0 where
+  pub idle : OnSwept j (λ ms. swept_ms + k.layout.shape.idle_ms ≤ ms)
+  pub last : IsLastSweep sweeps swept_ms (last_sweep lines)
+  pub each : (number : ℕ) → 1 ≤ number → number ≤ sweeps → is_some (numbered_sweep lines number) ≡ true
+  pub fresh : AllByRecursion (λ e. is_fresh j e.key ≡ true → e.quiet ≡ None) entries
+
 pub record SweepsHold (k : Config) (hits : Place → ℕ) (ring : ℕ → ℕ → ℕ) (pipes : List PipeView) (c : ControllerView) (lines : List Line) : Type 0 where
-  pub idle : OnSwept c.job (λ ms. c.swept_ms + k.layout.shape.idle_ms ≤ ms)
-  pub last : IsLastSweep c.sweeps c.swept_ms (last_sweep lines)
-  pub each : (number : ℕ) → 1 ≤ number → number ≤ c.sweeps → is_some (numbered_sweep lines number) ≡ true
-  pub fresh : AllByRecursion (λ e. is_fresh c.job e.key ≡ true → e.quiet ≡ None) c.book.entries
+  pub counted : SweepsCounted k c.sweeps c.swept_ms c.book.entries c.job lines
   pub quiet : AllByRecursion (EntryQuiet lines c.sweeps c.job) c.book.entries
   pub settled : AllByRecursion (EntrySettled hits pipes lines c.sweeps c.job) c.book.entries
   pub closed : AllByRecursion (λ e. e.closed ≡ true → HasEnded pipes lines e.key) c.book.entries
@@ -225,3 +230,8 @@ pub record SweepsHold (k : Config) (hits : Place → ℕ) (ring : ℕ → ℕ �
 
 pub record InSweeps (s : Core) : Type 0 where
   pub sweeps : SweepsHold s.config (hit_words s.words) (ring_words s.words) s.pipes s.controller (printed s)
+
+-- its first part alone: how sweeps are counted
+abbrev pub SweepsAreCounted : Core → Type 0
+SweepsAreCounted s =
+    SweepsCounted s.config s.controller.sweeps s.controller.swept_ms s.controller.book.entries s.controller.job (printed s)

@@ -1,0 +1,2 @@
+pub mod CountsKept
+pub mod Freshly
