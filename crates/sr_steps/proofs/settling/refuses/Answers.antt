@@ -1,0 +1,14 @@
+use Rattle.sr_core.specs.HeldCore.{state_of}
+use Rattle.sr_machine.specs.Core.{step_event}
+use Rattle.sr_machine.specs.declared.event.Event.TheVariants.{Refuse}
+use Rattle.sr_steps.proofs.Settles.{refusal_made, refusal_missed}
+use Rattle.sr_steps.proofs.settling.refuses.Goals as goal
+
+pub returns-in-Made : goal.returns-in-Made
+returns-in-Made c = λ words shows.
+    refusal_made (step_event Refuse (state_of c.args.core.now words)) c.args.core.now c.step.new.self (c.in-Made.ensures words shows)
+
+pub returns-in-NotNow : goal.returns-in-NotNow
+returns-in-NotNow c = λ words shows.
+    refusal_missed (step_event Refuse (state_of c.args.core.now words)) c.args.core.now c.step.new.self words shows
+    (c.in-NotNow.ensures words shows)
