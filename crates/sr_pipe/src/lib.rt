@@ -4,7 +4,12 @@
 //! | part | source files | `specs/` |
 //! |---|---|---|
 //! | A pipe, packet by packet and step by step | `pipe`, `progress` | `Steps`, `Known`, `Progress` |
-//! | A packet handled at one go, and the cause of its verdict | `handling` | `Handling`, `Told`, `Causes` |
+//! | A packet at one go: its first and last steps | `passing` | `Handling` |
+//! | It looks at the places of its key | `looking`, `found` | `Places`, `Choices` |
+//! | It is held, or goes by a version | `choosing`, `choice` | `Choices` |
+//! | Its server, its report | `serving`, `reporting`, `decided` | |
+//! | All of this in turn | `deciding` | |
+//! | Why its verdict is what it is | | `Told`, `Causes` |
 #![tactic(auto)]
 
 mod choice;

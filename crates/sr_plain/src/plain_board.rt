@@ -1,9 +1,12 @@
-ghost use Rattle.std.specs.Prelude.{◌≡◌, IfOk, length};
+ghost use Rattle.std.specs.Prelude.{◌≡◌, IfOk, List, length};
 ghost use Rattle.std.specs.List.{AllByRecursion};
 ghost use Rattle.sr_base.specs.Fitting.{IsPoolOf};
 ghost use Rattle.sr_base.specs.WordName.{HasWord, word_at};
+ghost use Rattle.sr_base.specs.declared.change.Change.{Change as AChange};
 ghost use Rattle.sr_core.specs.FirstPools.{first_words, listed};
 ghost use Rattle.sr_core.specs.PlainWords.{ShowsWords};
+ghost use Rattle.sr_law.specs.Pools.{pools_from};
+ghost use Rattle.sr_machine.specs.Opening.{opening_words};
 ghost use Rattle.sr_plain.specs.Actors.{HasActor};
 
 use crate::PlainActor;
@@ -29,11 +32,17 @@ impl Model for PlainBoard {
 
 impl PlainBoard {
     /// The words at the beginning: the first pools of the virtual addresses are named by their number 0.
+    #[tactic(auto, using(crate::proofs::Openings::opens))]
     pub fn new(alloc: Global, layout: &Layout, first: &[Pool]) -> Result<PlainBoard, AllocError>
         requires vips { length first.now ≡ layout.now.vips }
         requires pools { AllByRecursion (IsPoolOf layout.now) first.now }
         ensures layout { IfOk result (λ b. b.layout ≡ layout.now) }
         ensures words { IfOk result (λ b. ShowsWords layout.now b.words (first_words layout.now (listed first.now) layout.now.vips)) }
+        ensures opening { (changes : List AChange) → IfOk result (λ b. ShowsWords layout.now b.words (opening_words (record {
+            layout = layout.now;
+            pools = pools_from 0 first.now changes;
+            changes = changes;
+        }))) }
     {
         let words = PlainWords::opening(alloc, layout, first)?;
         Ok(PlainBoard { words })
