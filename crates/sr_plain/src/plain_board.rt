@@ -39,9 +39,9 @@ impl PlainBoard {
         ensures layout { IfOk result (λ b. b.layout ≡ layout.now) }
         ensures words { IfOk result (λ b. ShowsWords layout.now b.words (first_words layout.now (listed first.now) layout.now.vips)) }
         ensures opening { (changes : List AChange) → IfOk result (λ b. ShowsWords layout.now b.words (opening_words (record {
-            layout = layout.now;
-            pools = pools_from 0 first.now changes;
-            changes = changes;
+          layout = layout.now;
+          pools = pools_from 0 first.now changes;
+          changes = changes;
         }))) }
     {
         let words = PlainWords::opening(alloc, layout, first)?;
