@@ -1,5 +1,5 @@
 -- What holds of each pipe, as one of them changes.
-use Rattle.std.proofs.Common.{◌≡◌, ℕ, Bool, true, false, ◌≢◌, List, ◌==◌, slice_get, slice_set, Some, sym, refl, ap, ◌∙◌, subst, arith}
+use Rattle.std.proofs.Common.{◌≡◌, ℕ, zero, suc, ◌<◌, Bool, true, false, ◌≢◌, List, [], ◌∷◌, length, ◌==◌, slice_get, slice_set, Some, sym, refl, ap, ◌∙◌, subst, arith}
 use Rattle.std.proofs.lemmas.Bool.Decides.{nat_tests}
 use Rattle.std.proofs.lemmas.Option.{slice_get_within, same_Some}
 use Rattle.sr_inv_facts.specs.Readings.{EachPipe, SomePipe}
@@ -52,3 +52,9 @@ each_then P Q pipes turn all q u e = turn q u e (all q u e)
 pub idle : (a : Stage) → is_idle a ≡ true → a ≡ Idle
 idle Idle e = refl
 idle a e = cc
+
+-- a pipe that is in reach is there
+pub pipe_there : (pipes : List PipeView) (n : ℕ) → n < length pipes → (v : PipeView) × (slice_get pipes n ≡ Some v)
+pipe_there [] n h = absurd (omega arith)
+pipe_there (v ∷ pipes) zero h = (v, refl)
+pipe_there (v ∷ pipes) (suc n) h = pipe_there pipes n (omega arith)

@@ -221,12 +221,16 @@ pub record SweepsCounted (k : Config) (sweeps swept_ms : ℕ) (entries : List En
   pub each : (number : ℕ) → 1 ≤ number → number ≤ sweeps → is_some (numbered_sweep lines number) ≡ true
   pub fresh : AllByRecursion (λ e. is_fresh j e.key ≡ true → e.quiet ≡ None) entries
 
+-- a registered key that is marked as closed had an Ending packet, and so had one of a report in a ring, unless its retirement is on
+pub record ClosedHold (l : LayoutView) (ring : ℕ → ℕ → ℕ) (rings : List RingCount) (pipes : List PipeView) (entries : List Entry) (j : Job) (lines : List Line) : Type 0 where
+  pub closed : AllByRecursion (λ e. e.closed ≡ true → HasEnded pipes lines e.key) entries
+  pub closes : ClosesHold l ring rings pipes lines j
+
 pub record SweepsHold (k : Config) (hits : Place → ℕ) (ring : ℕ → ℕ → ℕ) (pipes : List PipeView) (c : ControllerView) (lines : List Line) : Type 0 where
   pub counted : SweepsCounted k c.sweeps c.swept_ms c.book.entries c.job lines
+  pub ended : ClosedHold k.layout ring c.rings pipes c.book.entries c.job lines
   pub quiet : AllByRecursion (EntryQuiet lines c.sweeps c.job) c.book.entries
   pub settled : AllByRecursion (EntrySettled hits pipes lines c.sweeps c.job) c.book.entries
-  pub closed : AllByRecursion (λ e. e.closed ≡ true → HasEnded pipes lines e.key) c.book.entries
-  pub closes : ClosesHold k.layout ring c.rings pipes lines c.job
 
 pub record InSweeps (s : Core) : Type 0 where
   pub sweeps : SweepsHold s.config (hit_words s.words) (ring_words s.words) s.pipes s.controller (printed s)
@@ -235,3 +239,8 @@ pub record InSweeps (s : Core) : Type 0 where
 abbrev pub SweepsAreCounted : Core → Type 0
 SweepsAreCounted s =
     SweepsCounted s.config s.controller.sweeps s.controller.swept_ms s.controller.book.entries s.controller.job (printed s)
+
+-- its second part alone: closed connections
+abbrev pub ClosedAre : Core → Type 0
+ClosedAre s =
+    ClosedHold s.config.layout (ring_words s.words) s.controller.rings s.pipes s.controller.book.entries s.controller.job (printed s)

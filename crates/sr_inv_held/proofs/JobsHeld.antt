@@ -9,6 +9,7 @@ use Rattle.sr_base.specs.declared.ring_word.RingKind.{RingKind}
 use Rattle.sr_base.specs.declared.ring_word.RingKind.TheVariants.{Learn, Punt, Close}
 use Rattle.sr_base.specs.declared.ring_word.RingWord.{RingWord}
 use Rattle.sr_inv_facts.proofs.Lists.{all_more}
+use Rattle.sr_inv_facts.proofs.Pipes.{pipe_there}
 use Rattle.sr_inv_facts.proofs.Takes.{count_else, count_here, take_none, take_some}
 use Rattle.sr_inv_facts.proofs.Windows.{some_left}
 use Rattle.sr_inv_facts.specs.InHeld.{Waiting, answered_by, answered_in, held_as, held_at, held_in_line, held_in_lines, held_of, punt_by, punt_in, waiting_by, waiting_in, HeldHolds, IsHeld, PipeHeld}
@@ -20,6 +21,7 @@ use Rattle.sr_inv_held.proofs.HeldTakes.{punt_is, take_plain, take_punt, told_on
 use Rattle.sr_inv_held.proofs.PipeHelds.{pipe_same}
 use Rattle.sr_law.specs.declared.line.Line.{Line}
 use Rattle.sr_law.specs.declared.verdict.Verdict.{Verdict}
+use Rattle.sr_machine.proofs.Following.{found}
 use Rattle.sr_machine.specs.Core.{Core}
 use Rattle.sr_machine.specs.Deciding.{ring_count}
 use Rattle.sr_machine.specs.Names.{rewritten}
@@ -81,12 +83,6 @@ range_more a (suc n) =
     let up : suc n + 1 ≡ suc (n + 1) = omega arith in
     let same : (a + 1) + n ≡ a + suc n = omega arith in
     ap (range_with_len a) up ∙ ap (λ xs. a ∷ xs) (range_more (a + 1) n ∙ ap (λ x. range_with_len (a + 1) n ++ x ∷ []) same)
-
--- a pipe that is in reach is there
-pipe_there : (pipes : List PipeView) (n : ℕ) → n < length pipes → (v : PipeView) × (slice_get pipes n ≡ Some v)
-pipe_there [] n h = absurd (omega arith)
-pipe_there (v ∷ pipes) zero h = (v, refl)
-pipe_there (v ∷ pipes) (suc n) h = pipe_there pipes n (omega arith)
 
 -- no more were held than packets came
 held_few : (lines : List Line) → length (held_in_lines lines) ≤ length lines

@@ -1,6 +1,6 @@
-//! Every event keeps how sweeps are counted: the first part of the family `InSweeps` of the invariant.
+//! Every event keeps how sweeps are counted, and which connections are closed: two parts of the family `InSweeps` of the invariant.
 #![tactic(auto)]
 
 mod laws;
 
-pub use laws::sweeps_are_counted;
+pub use laws::{closed_have_ended, sweeps_are_counted};
