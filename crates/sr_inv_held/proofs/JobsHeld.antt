@@ -21,7 +21,6 @@ use Rattle.sr_inv_held.proofs.HeldTakes.{punt_is, take_plain, take_punt, told_on
 use Rattle.sr_inv_held.proofs.PipeHelds.{pipe_same}
 use Rattle.sr_law.specs.declared.line.Line.{Line}
 use Rattle.sr_law.specs.declared.verdict.Verdict.{Verdict}
-use Rattle.sr_machine.proofs.Following.{found}
 use Rattle.sr_machine.specs.Core.{Core}
 use Rattle.sr_machine.specs.Deciding.{ring_count}
 use Rattle.sr_machine.specs.Names.{rewritten}
