@@ -1,2 +1,3 @@
 mod Plays
+mod Runs
 mod Settles
