@@ -12,17 +12,16 @@ use Rattle.sr_machine.specs.declared.leg.Leg.{Leg}
 use Rattle.sr_machine.specs.declared.leg.Leg.TheVariants.{Look, Hit, Filter, Chosen, Judged}
 use Rattle.sr_machine.specs.declared.pipe_view.PipeView.{PipeView}
 use Rattle.sr_machine.specs.declared.stage.Stage.{Stage}
-use Rattle.sr_machine.specs.declared.stage.Stage.TheVariants.{Note, Vip, Fly, Leave}
+use Rattle.sr_machine.specs.declared.stage.Stage.TheVariants.{Note, Vip, Fly}
 use Rattle.sr_machine.specs.declared.leg.Last.TheVariants as last
 use Rattle.sr_law.specs.declared.verdict.Verdict.TheVariants as verdict
 use Rattle.sr_law.specs.declared.verdict.HeldBy.TheVariants as by
 
 -- ---- the packet
 
--- of a packet that has loaded the word of its virtual address
+-- of a packet that has loaded the word of its virtual address, and isn't out
 abbrev pub OnFlight : Stage → (Flight → Type 0) → Type 0
 OnFlight (Fly f leg) P = P f
-OnFlight (Leave f) P = P f
 OnFlight stage P = Unit {0}
 
 -- of one that isn't out yet, with how far it has come

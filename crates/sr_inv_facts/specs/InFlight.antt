@@ -144,3 +144,17 @@ pub record FlightHolds (c : ControllerView) (lines : List Line) (p : ℕ) (f : F
 pub record InFlight (s : Core) : Type 0 where
   pub flights : EachPipe (λ p v. OnFlight v.stage (FlightHolds s.controller (printed s) p)) s.pipes
   pub legs : EachPipe (λ p v. OnLeg v.stage (LegHolds s.config (bit_words s.words) s.controller p v.pushed)) s.pipes
+
+-- ---- parts of it that stand alone
+
+-- each packet in flight has loaded the present word of its virtual address, or the one before a phase that is waited with
+abbrev pub WordsLoaded : Core → Type 0
+WordsLoaded s = EachPipe (λ p v. OnFlight v.stage (HasWord s.controller.vips s.controller.job p)) s.pipes
+
+-- what a packet has chosen, and why it was held, by the word that it loaded
+pub record Chooses (f : Flight) (leg : Leg) : Type 0 where
+  pub choice : OnUnmatched f leg (λ looks. OnChoice leg (ChoosesBy f.vip))
+  pub held : LegHeldIn f.vip.phase leg
+
+abbrev pub ChoicesHold : Core → Type 0
+ChoicesHold s = EachPipe (λ p v. OnLeg v.stage Chooses) s.pipes

@@ -1,0 +1,20 @@
+//! What every event keeps.
+
+ghost use Rattle.sr_inv_facts.specs.InFlight.{ChoicesHold, WordsLoaded};
+ghost use Rattle.sr_inv_facts.specs.Laws.{BegunKeeps, EventsKeep, OpensWith};
+
+/// A law: an opener that nothing has matched chooses by the word that it loaded, never in the phase that holds openers, and is held by a phase that it
+/// loaded; so it is at the opening, and so it stays with every event.
+pub fn choices_are_kept()
+    ensures opening { OpensWith ChoicesHold }
+    ensures begun { BegunKeeps ChoicesHold }
+    ensures event { EventsKeep ChoicesHold }
+{}
+
+/// A law: each packet in flight has loaded the present word of its virtual address, or the one before a phase whose wait its pipe hasn't passed; so
+/// it is at the opening, and so it stays with every event.
+pub fn loaded_words_are_kept()
+    ensures opening { OpensWith WordsLoaded }
+    ensures begun { BegunKeeps WordsLoaded }
+    ensures event { EventsKeep WordsLoaded }
+{}

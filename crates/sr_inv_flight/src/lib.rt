@@ -1,0 +1,6 @@
+//! Every event keeps what packets in flight have loaded and chosen: parts of the family `InFlight` of the invariant.
+#![tactic(auto)]
+
+mod laws;
+
+pub use laws::{choices_are_kept, loaded_words_are_kept};
