@@ -35,8 +35,8 @@ fn edit(word: &str) -> (usize, u8) {
     }
 }
 
-// A SYN, a data segment, or the SYN with another byte at a place.
-fn segment(word: &str) -> [u8; 40] {
+/// A SYN, a data segment, or the SYN with another byte at a place.
+pub fn segment(word: &str) -> [u8; 40] {
     let (at, byte) = match word {
         "data" => (33, 0x10),
         _ => edit(word),
