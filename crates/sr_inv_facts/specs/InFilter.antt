@@ -16,7 +16,6 @@ use Rattle.sr_machine.specs.Core.{Core, printed}
 use Rattle.sr_machine.specs.Deciding.{vip_at}
 use Rattle.sr_machine.specs.Reads.{steady}
 use Rattle.sr_machine.specs.Stages.{is_recorded, key_bits}
-use Rattle.sr_machine.specs.declared.controller_view.ControllerView.{ControllerView}
 use Rattle.sr_machine.specs.declared.job.Job.{Job}
 use Rattle.sr_machine.specs.declared.leg.Last.{Last}
 use Rattle.sr_machine.specs.declared.pipe_view.PipeView.{PipeView}
@@ -156,12 +155,13 @@ Markers l bits vips lines pipes (Some u) =
 
 -- ---- all of it
 
-pub record FilterHolds (l : LayoutView) (bits : ℕ → ℕ) (ring : ℕ → ℕ → ℕ) (pipes : List PipeView) (c : ControllerView) (lines : List Line) : Type 0 where
-  pub pending : AllByRecursion (PendingMarked l bits c.update c.vips c.job c.mark) c.book.entries
-  pub reports : EachLearn l ring (ReportMarked l bits c.update c.vips c.job)
-  pub learners : EachPipe (λ p v. OnLeg v.stage (λ f at. OnMayLearn f at (MayMarked l bits c.update c.vips f.packet.key))) pipes
-  pub drained : Drained l bits c.rings ring c.job
-  pub markers : Markers l bits c.vips lines pipes c.update
+pub record FilterHolds (l : LayoutView) (bits : ℕ → ℕ) (ring : ℕ → ℕ → ℕ) (pipes : List PipeView) (entries : List Entry) (vips : List VipWord) (rings : List RingCount) (update : Option PoolUpdate) (mark : ℕ) (j : Job) (lines : List Line) : Type 0 where
+  pub pending : AllByRecursion (PendingMarked l bits update vips j mark) entries
+  pub reports : EachLearn l ring (ReportMarked l bits update vips j)
+  pub learners : EachPipe (λ p v. OnLeg v.stage (λ f at. OnMayLearn f at (MayMarked l bits update vips f.packet.key))) pipes
+  pub drained : Drained l bits rings ring j
+  pub markers : Markers l bits vips lines pipes update
 
 pub record InFilter (s : Core) : Type 0 where
-  pub filter : FilterHolds s.config.layout (bit_words s.words) (ring_words s.words) s.pipes s.controller (printed s)
+  pub filter : FilterHolds s.config.layout (bit_words s.words) (ring_words s.words) s.pipes s.controller.book.entries s.controller.vips
+      s.controller.rings s.controller.update s.controller.mark s.controller.job (printed s)

@@ -19,13 +19,14 @@ use Rattle.sr_machine.specs.Config.{Config}
 use Rattle.sr_machine.specs.Core.{Core, printed}
 use Rattle.sr_machine.specs.Deciding.{learned_in, named_at, ring_count, vip_at}
 use Rattle.sr_machine.specs.Stages.{is_recorded, key_bits}
-use Rattle.sr_machine.specs.declared.controller_view.ControllerView.{ControllerView}
 use Rattle.sr_machine.specs.declared.flight.Flight.{Flight}
 use Rattle.sr_machine.specs.declared.job.Job.{Job}
 use Rattle.sr_machine.specs.declared.leg.Last.{Last}
 use Rattle.sr_machine.specs.declared.leg.Leg.{Leg}
 use Rattle.sr_machine.specs.declared.leg.Leg.TheVariants.{Filter, Chosen, Judged}
 use Rattle.sr_machine.specs.declared.leg.Load.{Load}
+use Rattle.sr_machine.specs.declared.ring_count.RingCount.{RingCount}
+use Rattle.sr_update.specs.declared.number_state.NumberState.{NumberState}
 use Rattle.sr_machine.specs.declared.leg.Last.TheVariants as last
 use Rattle.sr_machine.specs.declared.leg.Load.TheVariants as load
 use Rattle.sr_law.specs.declared.verdict.Verdict.TheVariants as verdict
@@ -128,22 +129,23 @@ LegHeldIn phase leg = Unit {0}
 -- ---- all of it
 
 -- of a packet in flight, by what it reads
-pub record LegHolds (k : Config) (bits : ℕ → ℕ) (c : ControllerView) (p pushed : ℕ) (f : Flight) (leg : Leg) : Type 0 where
+pub record LegHolds (k : Config) (bits : ℕ → ℕ) (named : List (List ℕ)) (numbers : List (List NumberState)) (rings : List RingCount) (j : Job) (p pushed : ℕ) (f : Flight) (leg : Leg) : Type 0 where
   pub choice : OnUnmatched f leg (λ looks. OnChoice leg (ChoosesBy f.vip))
   pub held : LegHeldIn f.vip.phase leg
   pub set : LegSet k.layout bits f leg
-  pub server : LegTells k c.named f.packet.key leg
-  pub cell : LegFree k.layout.shape.ring (ring_count c.rings p).words pushed leg
-  pub used : OnNumber leg (λ version. is_used c.numbers f.packet.key.vip version ≡ true)
-  pub release : OnReleased c.job p f.entered (λ vip version. f.packet.key.vip ≡ vip → OnNumber leg (λ n. n ≢ version))
+  pub server : LegTells k named f.packet.key leg
+  pub cell : LegFree k.layout.shape.ring (ring_count rings p).words pushed leg
+  pub used : OnNumber leg (λ version. is_used numbers f.packet.key.vip version ≡ true)
+  pub release : OnReleased j p f.entered (λ vip version. f.packet.key.vip ≡ vip → OnNumber leg (λ n. n ≢ version))
 
-pub record FlightHolds (c : ControllerView) (lines : List Line) (p : ℕ) (f : Flight) : Type 0 where
-  pub word : HasWord c.vips c.job p f
+pub record FlightHolds (vips : List VipWord) (j : Job) (lines : List Line) (p : ℕ) (f : Flight) : Type 0 where
+  pub word : HasWord vips j p f
   pub known : WordKnown lines f.packet.key.vip f.entered f.vip.phase
 
 pub record InFlight (s : Core) : Type 0 where
-  pub flights : EachPipe (λ p v. OnFlight v.stage (FlightHolds s.controller (printed s) p)) s.pipes
-  pub legs : EachPipe (λ p v. OnLeg v.stage (LegHolds s.config (bit_words s.words) s.controller p v.pushed)) s.pipes
+  pub flights : EachPipe (λ p v. OnFlight v.stage (FlightHolds s.controller.vips s.controller.job (printed s) p)) s.pipes
+  pub legs : EachPipe (λ p v. OnLeg v.stage
+      (LegHolds s.config (bit_words s.words) s.controller.named s.controller.numbers s.controller.rings s.controller.job p v.pushed)) s.pipes
 
 -- ---- parts of it that stand alone
 

@@ -5,6 +5,7 @@ use Rattle.sr_base.specs.Key.{KeyView}
 use Rattle.sr_base.specs.Layout.{LayoutView}
 use Rattle.sr_base.specs.declared.kind.Kind.{Kind}
 use Rattle.sr_base.specs.declared.kind.Kind.TheVariants.{Opener}
+use Rattle.sr_base.specs.declared.vip_word.VipWord.{VipWord}
 use Rattle.sr_inv_facts.specs.Doing.{OnAnswer}
 use Rattle.sr_inv_facts.specs.Flying.{BeforePush, IfOpener, OnLeg, OnTo, SomeLeaving}
 use Rattle.sr_inv_facts.specs.Readings.{EachLearn, EachPipe, SomeLearn, ring_words}
@@ -15,7 +16,6 @@ use Rattle.sr_law.specs.declared.verdict.Verdict.{Verdict}
 use Rattle.sr_machine.specs.Config.{Config}
 use Rattle.sr_machine.specs.Core.{Core, printed}
 use Rattle.sr_machine.specs.Deciding.{learned, is_down, named_at, server_for}
-use Rattle.sr_machine.specs.declared.controller_view.ControllerView.{ControllerView}
 use Rattle.sr_machine.specs.declared.flight.Flight.{Flight}
 use Rattle.sr_machine.specs.declared.job.Job.{Job}
 use Rattle.sr_machine.specs.declared.leg.Last.{Last}
@@ -80,24 +80,24 @@ IsAwaited j key = ⊥
 
 -- a held opener's key was registered as its entry was made live: the version is the one that is learned, and its server isn't
 -- down
-pub record IsToBeAnswered (k : Config) (c : ControllerView) (e : Entry) : Type 0 where
+pub record IsToBeAnswered (k : Config) (vips : List VipWord) (named : List (List ℕ)) (down : List ℕ) (j : Job) (e : Entry) : Type 0 where
   pub placed : is_placed e ≡ true
-  pub awaited : IsAwaited c.job e.key
-  pub newest : e.version ≡ learned c.vips e.key.vip
-  pub up : is_down c.down (server_for k c.named e.key e.version) ≡ false
+  pub awaited : IsAwaited j e.key
+  pub newest : e.version ≡ learned vips e.key.vip
+  pub up : is_down down (server_for k named e.key e.version) ≡ false
 
 -- its opener isn't out yet, or is held and about to be answered
-abbrev pub IsUnopened : Config → ControllerView → List PipeView → Entry → Type 0
-IsUnopened k c pipes e = ((is_pending e ≡ true) × SomeLeaving pipes e.key e.version) ⊎ IsToBeAnswered k c e
+abbrev pub IsUnopened : Config → List VipWord → List (List ℕ) → List ℕ → Job → List PipeView → Entry → Type 0
+IsUnopened k vips named down j pipes e = ((is_pending e ≡ true) × SomeLeaving pipes e.key e.version) ⊎ IsToBeAnswered k vips named down j e
 
 -- the opening has the entry's version, and the pool that it names
 pub record OpenedAs (named : List (List ℕ)) (e : Entry) (o : Opening) : Type 0 where
   pub version : o.version ≡ e.version
   pub pool : o.pool ≡ named_at named e.key.vip e.version
 
-abbrev pub EntryOpened : Config → ControllerView → List PipeView → Entry → Option Opening → Type 0
-EntryOpened k c pipes e None = IsUnopened k c pipes e
-EntryOpened k c pipes e (Some o) = OpenedAs c.named e o
+abbrev pub EntryOpened : Config → List VipWord → List (List ℕ) → List ℕ → Job → List PipeView → Entry → Option Opening → Type 0
+EntryOpened k vips named down j pipes e None = IsUnopened k vips named down j pipes e
+EntryOpened k vips named down j pipes e (Some o) = OpenedAs named e o
 
 -- ---- a key that is open and isn't registered
 
@@ -123,13 +123,14 @@ IfUnregistered entries r P = is_registered r.held.key entries ≡ false → IfSo
 
 -- ---- all of it
 
-pub record OpeningsHold (k : Config) (ring : ℕ → ℕ → ℕ) (pipes : List PipeView) (c : ControllerView) (lines : List Line) : Type 0 where
-  pub pushed : EachPipe (λ p v. OnLeg v.stage (LegPushed k.layout ring c.book.entries)) pipes
+pub record OpeningsHold (k : Config) (ring : ℕ → ℕ → ℕ) (pipes : List PipeView) (entries : List Entry) (vips : List VipWord) (named : List (List ℕ)) (down : List ℕ) (j : Job) (lines : List Line) : Type 0 where
+  pub pushed : EachPipe (λ p v. OnLeg v.stage (LegPushed k.layout ring entries)) pipes
   pub learned : EachLearn k.layout ring (IsLearned lines pipes)
-  pub entry : AllByRecursion (λ e. EntryOpened k c pipes e (opening lines e.key)) c.book.entries
-  pub reported : (key : KeyView) → is_registered key c.book.entries ≡ false
-      → IsReported k.layout ring c.named key (opening lines key)
-  pub dead : OnAnswer c.job (λ r. IfUnregistered c.book.entries r (NothingLearned k.layout ring pipes r.held.key))
+  pub entry : AllByRecursion (λ e. EntryOpened k vips named down j pipes e (opening lines e.key)) entries
+  pub reported : (key : KeyView) → is_registered key entries ≡ false
+      → IsReported k.layout ring named key (opening lines key)
+  pub dead : OnAnswer j (λ r. IfUnregistered entries r (NothingLearned k.layout ring pipes r.held.key))
 
 pub record InOpenings (s : Core) : Type 0 where
-  pub openings : OpeningsHold s.config (ring_words s.words) s.pipes s.controller (printed s)
+  pub openings : OpeningsHold s.config (ring_words s.words) s.pipes s.controller.book.entries s.controller.vips s.controller.named
+      s.controller.down s.controller.job (printed s)

@@ -15,7 +15,6 @@ use Rattle.sr_law.specs.declared.sweep.Sweep.{Sweep}
 use Rattle.sr_law.specs.declared.taking.Taking.{Taking}
 use Rattle.sr_machine.specs.Config.{Config}
 use Rattle.sr_machine.specs.Core.{Core, printed}
-use Rattle.sr_machine.specs.declared.controller_view.ControllerView.{ControllerView}
 use Rattle.sr_machine.specs.declared.flight.Flight.{Flight}
 use Rattle.sr_machine.specs.declared.job.Job.{Job}
 use Rattle.sr_machine.specs.declared.leg.Leg.{Leg}
@@ -226,14 +225,15 @@ pub record ClosedHold (l : LayoutView) (ring : ℕ → ℕ → ℕ) (rings : Lis
   pub closed : AllByRecursion (λ e. e.closed ≡ true → HasEnded pipes lines e.key) entries
   pub closes : ClosesHold l ring rings pipes lines j
 
-pub record SweepsHold (k : Config) (hits : Place → ℕ) (ring : ℕ → ℕ → ℕ) (pipes : List PipeView) (c : ControllerView) (lines : List Line) : Type 0 where
-  pub counted : SweepsCounted k c.sweeps c.swept_ms c.book.entries c.job lines
-  pub ended : ClosedHold k.layout ring c.rings pipes c.book.entries c.job lines
-  pub quiet : AllByRecursion (EntryQuiet lines c.sweeps c.job) c.book.entries
-  pub settled : AllByRecursion (EntrySettled hits pipes lines c.sweeps c.job) c.book.entries
+pub record SweepsHold (k : Config) (hits : Place → ℕ) (ring : ℕ → ℕ → ℕ) (pipes : List PipeView) (entries : List Entry) (rings : List RingCount) (sweeps swept_ms : ℕ) (j : Job) (lines : List Line) : Type 0 where
+  pub counted : SweepsCounted k sweeps swept_ms entries j lines
+  pub ended : ClosedHold k.layout ring rings pipes entries j lines
+  pub quiet : AllByRecursion (EntryQuiet lines sweeps j) entries
+  pub settled : AllByRecursion (EntrySettled hits pipes lines sweeps j) entries
 
 pub record InSweeps (s : Core) : Type 0 where
-  pub sweeps : SweepsHold s.config (hit_words s.words) (ring_words s.words) s.pipes s.controller (printed s)
+  pub sweeps : SweepsHold s.config (hit_words s.words) (ring_words s.words) s.pipes s.controller.book.entries s.controller.rings
+      s.controller.sweeps s.controller.swept_ms s.controller.job (printed s)
 
 -- its first part alone: how sweeps are counted
 abbrev pub SweepsAreCounted : Core → Type 0

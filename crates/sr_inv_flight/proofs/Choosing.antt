@@ -186,7 +186,7 @@ choices_keep = record {
 }
 
 -- what the invariant says of choices
-leg_part : (s : Core) (p : ℕ) (v : PipeView) (at : Stage) → OnLeg at (LegHolds s.config (bit_words s.words) s.controller p v.pushed)
+leg_part : (s : Core) (p : ℕ) (v : PipeView) (at : Stage) → OnLeg at (LegHolds s.config (bit_words s.words) s.controller.named s.controller.numbers s.controller.rings s.controller.job p v.pushed)
     → OnLeg at Chooses
 leg_part s p v (Fly f leg) h = record { choice = h.choice; held = h.held }
 leg_part s p v at h = tt

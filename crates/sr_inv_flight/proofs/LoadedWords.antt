@@ -119,7 +119,7 @@ word_after s i p v at q e h (Some o) g =
     let P : ℕ → PipeView → Type 0 = λ n u. OnFlight u.stage (HasWord s.controller.vips s.controller.job n) in
     each_set s.pipes p v (pipe_after l v at x) q P (λ n u r. flight_part n u u.stage (i.flight.flights n u r)) (own at g h)
   where
-    flight_part : (n : ℕ) (u : PipeView) (at : Stage) → OnFlight at (FlightHolds s.controller (printed s) n) → OnFlight at (HasWord s.controller.vips s.controller.job n)
+    flight_part : (n : ℕ) (u : PipeView) (at : Stage) → OnFlight at (FlightHolds s.controller.vips s.controller.job (printed s) n) → OnFlight at (HasWord s.controller.vips s.controller.job n)
     flight_part n u (Fly f leg) t = t.word
     flight_part n u at t = tt
 
@@ -253,7 +253,7 @@ flight_then (Leave f) P Q t h = tt
 
 pub words_part : (s : Core) → Invariant s → WordsLoaded s
 words_part s i p v q =
-    flight_then v.stage (FlightHolds s.controller (printed s) p) (HasWord s.controller.vips s.controller.job p) (λ f leg e h. h.word) (i.flight.flights p v q)
+    flight_then v.stage (FlightHolds s.controller.vips s.controller.job (printed s) p) (HasWord s.controller.vips s.controller.job p) (λ f leg e h. h.word) (i.flight.flights p v q)
 
 module _ (s : Core) (i : Invariant s) where
   -- what holds of each packet's word under the one job holds under the next

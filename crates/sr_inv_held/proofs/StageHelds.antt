@@ -201,8 +201,8 @@ module _ (s : Core) (i : Invariant s) (p : ℕ) (v : PipeView) (q : slice_get s.
   own_fits : (a : Stage) → v.stage ≡ a → StageFits s.config.layout a
   own_fits a e = subst (StageFits s.config.layout) e (i.shape.pipes.stage p v q)
 
-  own_leg : (a : Stage) → v.stage ≡ a → OnLeg a (LegHolds s.config (bit_words s.words) s.controller p v.pushed)
-  own_leg a e = subst (λ z. OnLeg z (LegHolds s.config (bit_words s.words) s.controller p v.pushed)) e (i.flight.legs p v q)
+  own_leg : (a : Stage) → v.stage ≡ a → OnLeg a (LegHolds s.config (bit_words s.words) s.controller.named s.controller.numbers s.controller.rings s.controller.job p v.pushed)
+  own_leg a e = subst (λ z. OnLeg z (LegHolds s.config (bit_words s.words) s.controller.named s.controller.numbers s.controller.rings s.controller.job p v.pushed)) e (i.flight.legs p v q)
 
   -- a line is drawn
   line_goes : (f : Flight) (w : Verdict) (x : ℕ) → v.stage ≡ Fly f (Judged w last.Out)

@@ -73,8 +73,8 @@ module _ (s : Core) (i : Invariant s) (p : ℕ) (v : PipeView) (q : slice_get s.
       i.words.ring
       (subst (HoldsReports s.config.layout (ring_words s.words p) (ring_count s.controller.rings p).words) (sym same) (i.words.ring p v q))
 
-  own_leg : (a : Stage) → v.stage ≡ a → OnLeg a (LegHolds s.config (bit_words s.words) s.controller p v.pushed)
-  own_leg a e = subst (λ z. OnLeg z (LegHolds s.config (bit_words s.words) s.controller p v.pushed)) e (i.flight.legs p v q)
+  own_leg : (a : Stage) → v.stage ≡ a → OnLeg a (LegHolds s.config (bit_words s.words) s.controller.named s.controller.numbers s.controller.rings s.controller.job p v.pushed)
+  own_leg a e = subst (λ z. OnLeg z (LegHolds s.config (bit_words s.words) s.controller.named s.controller.numbers s.controller.rings s.controller.job p v.pushed)) e (i.flight.legs p v q)
 
   own_fits : (a : Stage) → v.stage ≡ a → StageFits s.config.layout a
   own_fits a e = subst (StageFits s.config.layout) e (i.shape.pipes.stage p v q)
@@ -117,7 +117,7 @@ module _ (s : Core) (i : Invariant s) (p : ℕ) (v : PipeView) (q : slice_get s.
   marked f w bit rest x e n b c =
       absurd (recording_uncleared s.config s.controller.update s.controller.vips s.controller.job i.update.update.phase i.update.update.others p f.entered f.packet.key.vip n f.vip
       (own_fits (Fly f (Judged w (last.Mark bit rest))) e).1.1.recording
-      (subst (λ z. OnFlight z (FlightHolds s.controller (printed s) p)) e (i.flight.flights p v q)).word c)
+      (subst (λ z. OnFlight z (FlightHolds s.controller.vips s.controller.job (printed s) p)) e (i.flight.flights p v q)).word c)
 
   pub others_stage : (a : Stage) → v.stage ≡ a → AfterStage OthersHold s p v a (pipe_op s.config.layout v a)
   others_stage Idle e = tt
