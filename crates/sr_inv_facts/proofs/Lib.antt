@@ -1,6 +1,7 @@
 pub mod Beginning
 pub mod Books
 pub mod Entries
+pub mod Filters
 pub mod Keeping
 pub mod Lists
 pub mod OpeningLines

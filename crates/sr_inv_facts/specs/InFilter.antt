@@ -165,3 +165,32 @@ pub record FilterHolds (l : LayoutView) (bits : ℕ → ℕ) (ring : ℕ → ℕ
 pub record InFilter (s : Core) : Type 0 where
   pub filter : FilterHolds s.config.layout (bit_words s.words) (ring_words s.words) s.pipes s.controller.book.entries s.controller.vips
       s.controller.rings s.controller.update s.controller.mark s.controller.job (printed s)
+
+-- ---- parts of it that stand alone
+
+-- the keys that wait for a place
+abbrev pub PendingKept : Core → Type 0
+PendingKept s =
+    AllByRecursion (PendingMarked s.config.layout (bit_words s.words) s.controller.update s.controller.vips s.controller.job s.controller.mark)
+    s.controller.book.entries
+
+-- the reports in the rings
+abbrev pub ReportsKept : Core → Type 0
+ReportsKept s =
+    EachLearn s.config.layout (ring_words s.words)
+    (ReportMarked s.config.layout (bit_words s.words) s.controller.update s.controller.vips s.controller.job)
+
+-- the openers that may yet report so
+abbrev pub LearnersKept : Core → Type 0
+LearnersKept s =
+    EachPipe (λ p v. OnLeg v.stage (λ f at.
+    OnMayLearn f at (MayMarked s.config.layout (bit_words s.words) s.controller.update s.controller.vips f.packet.key))) s.pipes
+
+-- what a drain has behind it
+abbrev pub DrainedKept : Core → Type 0
+DrainedKept s = Drained s.config.layout (bit_words s.words) s.controller.rings (ring_words s.words) s.controller.job
+
+-- who set the places that are set
+abbrev pub MarkersKept : Core → Type 0
+MarkersKept s =
+    Markers s.config.layout (bit_words s.words) s.controller.vips (printed s) s.pipes s.controller.update

@@ -160,3 +160,32 @@ pub record Chooses (f : Flight) (leg : Leg) : Type 0 where
 
 abbrev pub ChoicesHold : Core → Type 0
 ChoicesHold s = EachPipe (λ p v. OnLeg v.stage Chooses) s.pipes
+
+-- the filter as far as a packet has looked at it, or has recorded itself there
+abbrev pub FiltersSet : Core → Type 0
+FiltersSet s = EachPipe (λ p v. OnLeg v.stage (LegSet s.config.layout (bit_words s.words))) s.pipes
+
+-- what a packet has loaded of its version is its pool's
+abbrev pub ServersTold : Core → Type 0
+ServersTold s = EachPipe (λ p v. OnLeg v.stage (λ f leg. LegTells s.config s.controller.named f.packet.key leg)) s.pipes
+
+-- a packet that has found its cell empty has a cell to store its report in
+abbrev pub CellsFree : Core → Type 0
+CellsFree s =
+    EachPipe (λ p v. OnLeg v.stage (λ f leg. LegFree s.config.layout.shape.ring (ring_count s.controller.rings p).words v.pushed leg)) s.pipes
+
+-- the version that a packet has chosen or found is in use
+abbrev pub NumbersUsed : Core → Type 0
+NumbersUsed s =
+    EachPipe (λ p v. OnLeg v.stage (λ f leg. OnNumber leg (λ version. is_used s.controller.numbers f.packet.key.vip version ≡ true))) s.pipes
+
+-- no packet of a pipe that a release has passed has chosen the version that is released
+abbrev pub Unreleased : Job → ℕ → Flight → Leg → Type 0
+Unreleased j p f leg = OnReleased j p f.entered (λ vip version. f.packet.key.vip ≡ vip → OnNumber leg (λ n. n ≢ version))
+
+abbrev pub ReleasesPassed : Core → Type 0
+ReleasesPassed s = EachPipe (λ p v. OnLeg v.stage (Unreleased s.controller.job p)) s.pipes
+
+-- a packet that loaded Holding or Transit entered before the line that ends it, if that is out
+abbrev pub PhasesKnown : Core → Type 0
+PhasesKnown s = EachPipe (λ p v. OnFlight v.stage (λ f. WordKnown (printed s) f.packet.key.vip f.entered f.vip.phase)) s.pipes
