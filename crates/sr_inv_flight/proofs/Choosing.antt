@@ -1,5 +1,5 @@
 -- What a packet chooses follows from the word that it loaded.
-use Rattle.std.proofs.Common.{◌≡◌, ℕ, Bool, true, false, ◌≢◌, List, [], ◌∷◌, set, if◌then◌else◌, ◌==◌, slice_get, Some, None, Option, sym, refl, ap, ◌∙◌, subst}
+use Rattle.std.proofs.Common.{◌≡◌, ℕ, Bool, true, false, ◌≢◌, List, [], ◌∷◌, if◌then◌else◌, ◌==◌, slice_get, Some, None, Option, sym, refl, ap, ◌∙◌, subst}
 use Rattle.sr_base.specs.Layout.{LayoutView}
 use Rattle.sr_base.specs.declared.kind.Kind.{Kind}
 use Rattle.sr_base.specs.declared.kind.Kind.TheVariants.{Opener, Carry, Ending}
@@ -17,7 +17,7 @@ use Rattle.sr_inv_facts.specs.Laws.{OpensWith}
 use Rattle.sr_inv_facts.specs.Readings.{bit_words}
 use Rattle.sr_law.specs.declared.verdict.HeldBy.{HeldBy}
 use Rattle.sr_law.specs.declared.verdict.Verdict.{Verdict}
-use Rattle.sr_machine.specs.Core.{Core, enters}
+use Rattle.sr_machine.specs.Core.{Core}
 use Rattle.sr_machine.specs.Deciding.{learned_in}
 use Rattle.sr_machine.specs.Jobs.{job_op}
 use Rattle.sr_machine.specs.Keeping.{AfterJob, AfterStage, Keeps}

@@ -1,2 +1,4 @@
 pub mod Choosing
+pub mod FilterPlaces
 pub mod LoadedWords
+pub mod Steps

@@ -25,7 +25,7 @@ use Rattle.sr_law.specs.declared.verdict.Verdict.{Verdict}
 use Rattle.sr_machine.proofs.Following.{goes}
 use Rattle.sr_machine.proofs.Written.{vip_read}
 use Rattle.sr_machine.specs.Config.{Config}
-use Rattle.sr_machine.specs.Core.{opening, Core, enters, printed}
+use Rattle.sr_machine.specs.Core.{opening, Core, printed}
 use Rattle.sr_machine.specs.Deciding.{vip_at}
 use Rattle.sr_machine.specs.Draws.{phase_job}
 use Rattle.sr_machine.specs.Goes.{Goes}

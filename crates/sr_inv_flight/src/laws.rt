@@ -1,6 +1,6 @@
 //! What every event keeps.
 
-ghost use Rattle.sr_inv_facts.specs.InFlight.{ChoicesHold, WordsLoaded};
+ghost use Rattle.sr_inv_facts.specs.InFlight.{ChoicesHold, FiltersSet, WordsLoaded};
 ghost use Rattle.sr_inv_facts.specs.Laws.{BegunKeeps, EventsKeep, OpensWith};
 
 /// A law: an opener that nothing has matched chooses by the word that it loaded, never in the phase that holds openers, and is held by a phase that it
@@ -17,4 +17,12 @@ pub fn loaded_words_are_kept()
     ensures opening { OpensWith WordsLoaded }
     ensures begun { BegunKeeps WordsLoaded }
     ensures event { EventsKeep WordsLoaded }
+{}
+
+/// A law: a packet that looks at the transit filter, or records itself there, has found or set each place of its key that is behind it; so it is at the
+/// opening, and so it stays with every event.
+pub fn filter_places_are_kept()
+    ensures opening { OpensWith FiltersSet }
+    ensures begun { BegunKeeps FiltersSet }
+    ensures event { EventsKeep FiltersSet }
 {}
