@@ -1,0 +1,5 @@
+pub mod KeyPlaces
+pub mod Saying
+pub mod Stepping
+pub mod Unmatching
+pub mod UnmatchedKept

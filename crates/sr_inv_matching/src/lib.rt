@@ -1,0 +1,6 @@
+//! Every event keeps that no packet is taken for another connection's: parts of the family `InMatching` of the invariant.
+#![tactic(auto)]
+
+mod laws;
+
+pub use laws::unmatched_openers_look;
