@@ -1,3 +1,4 @@
+pub mod Cells
 pub mod Choosing
 pub mod FilterPlaces
 pub mod LoadedWords

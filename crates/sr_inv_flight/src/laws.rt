@@ -1,6 +1,6 @@
 //! What every event keeps.
 
-ghost use Rattle.sr_inv_facts.specs.InFlight.{ChoicesHold, FiltersSet, WordsLoaded};
+ghost use Rattle.sr_inv_facts.specs.InFlight.{CellsFree, ChoicesHold, FiltersSet, WordsLoaded};
 ghost use Rattle.sr_inv_facts.specs.Laws.{BegunKeeps, EventsKeep, OpensWith};
 
 /// A law: an opener that nothing has matched chooses by the word that it loaded, never in the phase that holds openers, and is held by a phase that it
@@ -25,4 +25,12 @@ pub fn filter_places_are_kept()
     ensures opening { OpensWith FiltersSet }
     ensures begun { BegunKeeps FiltersSet }
     ensures event { EventsKeep FiltersSet }
+{}
+
+/// A law: a packet that found its cell of the ring empty has that cell until its report is stored; so it is at the opening, and so it stays with every
+/// event.
+pub fn cells_are_kept()
+    ensures opening { OpensWith CellsFree }
+    ensures begun { BegunKeeps CellsFree }
+    ensures event { EventsKeep CellsFree }
 {}
