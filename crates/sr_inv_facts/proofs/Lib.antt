@@ -1,7 +1,9 @@
 pub mod Beginning
 pub mod Books
+pub mod CurrentVersions
 pub mod Entries
 pub mod Filters
+pub mod FoundVersions
 pub mod Keeping
 pub mod Lists
 pub mod OpeningLines

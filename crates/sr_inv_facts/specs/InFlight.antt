@@ -2,7 +2,7 @@
 -- chosen follows from what it has loaded.
 use Rattle.std.specs.List.{AllByRecursion}
 use Rattle.std.specs.Prelude.{◌≡◌, ℕ, ◌+◌, ◌<◌, Bool, true, ◌≢◌, ◌⊎◌, List, ◌∷◌, length, Some}
-use Rattle.sr_base.specs.Key.{KeyView}
+use Rattle.sr_base.specs.Key.{IsKey, KeyView}
 use Rattle.sr_base.specs.Layout.{LayoutView}
 use Rattle.sr_base.specs.declared.vip_word.Phase.{Phase}
 use Rattle.sr_base.specs.declared.vip_word.Phase.TheVariants.{Steady, Recording, Holding, Transit}
@@ -27,8 +27,11 @@ use Rattle.sr_machine.specs.declared.leg.Leg.TheVariants.{Filter, Chosen, Judged
 use Rattle.sr_machine.specs.declared.leg.Load.{Load}
 use Rattle.sr_machine.specs.declared.ring_count.RingCount.{RingCount}
 use Rattle.sr_update.specs.declared.number_state.NumberState.{NumberState}
+use Rattle.sr_machine.specs.declared.job.Job.TheVariants as job
 use Rattle.sr_machine.specs.declared.leg.Last.TheVariants as last
 use Rattle.sr_machine.specs.declared.leg.Load.TheVariants as load
+use Rattle.sr_machine.specs.declared.store.Store.TheVariants as store
+use Rattle.sr_machine.specs.declared.why.Why.TheVariants as why
 use Rattle.sr_law.specs.declared.verdict.Verdict.TheVariants as verdict
 use Rattle.sr_law.specs.declared.verdict.HeldBy.TheVariants as by
 
@@ -126,6 +129,13 @@ abbrev pub LegHeldIn : Phase → Leg → Type 0
 LegHeldIn phase (Judged v last) = HeldIn phase v
 LegHeldIn phase leg = Unit {0}
 
+-- ---- a connection that is over
+
+-- of its key, while its place is still to be emptied
+abbrev pub OnOver : Job → (KeyView → Type 0) → Type 0
+OnOver (job.Store (store.Empty key place (why.Retired version))) P = P key
+OnOver j P = Unit {0}
+
 -- ---- all of it
 
 -- of a packet in flight, by what it reads
@@ -146,6 +156,7 @@ pub record InFlight (s : Core) : Type 0 where
   pub flights : EachPipe (λ p v. OnFlight v.stage (FlightHolds s.controller.vips s.controller.job (printed s) p)) s.pipes
   pub legs : EachPipe (λ p v. OnLeg v.stage
       (LegHolds s.config (bit_words s.words) s.controller.named s.controller.numbers s.controller.rings s.controller.job p v.pushed)) s.pipes
+  pub over : OnOver s.controller.job IsKey
 
 -- ---- parts of it that stand alone
 
@@ -189,3 +200,7 @@ ReleasesPassed s = EachPipe (λ p v. OnLeg v.stage (Unreleased s.controller.job 
 -- a packet that loaded Holding or Transit entered before the line that ends it, if that is out
 abbrev pub PhasesKnown : Core → Type 0
 PhasesKnown s = EachPipe (λ p v. OnFlight v.stage (λ f. WordKnown (printed s) f.packet.key.vip f.entered f.vip.phase)) s.pipes
+
+-- the key of a connection that is over is one, while its place is still to be emptied
+abbrev pub OverKeyed : Core → Type 0
+OverKeyed s = OnOver s.controller.job IsKey
