@@ -12,6 +12,7 @@ pub mod Plain
 pub mod Printing
 pub mod Ranges
 pub mod Reading
+pub mod RingTakes
 pub mod Sums
 pub mod Takes
 pub mod Taking

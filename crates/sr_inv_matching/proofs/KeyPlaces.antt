@@ -6,7 +6,6 @@ use Rattle.sr_base.specs.Layout.{LayoutView}
 use Rattle.sr_base.specs.declared.place.Place.{Place}
 use Rattle.sr_base.specs.declared.place.Place.TheVariants.{Row, Slot}
 use Rattle.sr_hash.specs.Uses.{bucket_of, group_of, is_place_of}
-use Rattle.sr_inv_facts.proofs.Lists.{in_more}
 use Rattle.sr_inv_facts.specs.Readings.{In}
 use Rattle.sr_machine.specs.Stages.{key_places}
 use Rattle.sr_shadow.specs.Plan.{key_slots, slots_in, slots_of}

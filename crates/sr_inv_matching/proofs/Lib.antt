@@ -1,4 +1,7 @@
+pub mod DrainsKept
 pub mod KeyPlaces
+pub mod LearnedKept
+pub mod Reports
 pub mod Saying
 pub mod Stepping
 pub mod Unmatching

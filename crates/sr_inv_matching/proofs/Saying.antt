@@ -1,34 +1,28 @@
 -- What the words at places say: an entry's place tells it, and a reserved one the put.
-use Rattle.std.proofs.Common.{◌≡◌, ℕ, Bool, true, false, cond, ◌||◌, ◌<◌, List, [], ◌∷◌, ◌++◌, if◌then◌else◌, ◌==◌, ◌&&◌, Some, None, Option, option_map, find, unwrap_or, sym, refl, ap, ◌∙◌, subst, true≢false, arith}
+use Rattle.std.proofs.Common.{◌≡◌, ℕ, Bool, true, false, cond, ◌||◌, ◌<◌, List, [], ◌∷◌, ◌++◌, if◌then◌else◌, Some, None, Option, option_map, find, unwrap_or, sym, refl, ap, ◌∙◌, subst, arith}
 use Rattle.std.proofs.lemmas.Bool.Decides.{nat_tests}
-use Rattle.std.proofs.lemmas.Option.{same_Some}
-use Rattle.std.specs.List.{AllByRecursion}
-use Rattle.sr_base.proofs.Sameness.{same_key-self, same_key-true, same_place-self, same_place-true}
-use Rattle.sr_base.specs.Key.{IsKey, KeyView, same_key}
+use Rattle.sr_base.proofs.Sameness.{same_key-self, same_place-self}
+use Rattle.sr_base.specs.Key.{IsKey, KeyView}
 use Rattle.sr_base.specs.Layout.{IsLayout, LayoutView}
-use Rattle.sr_base.specs.Place.{same_place}
 use Rattle.sr_base.specs.declared.place.Place.{Place}
 use Rattle.sr_base.specs.declared.place.Place.TheVariants.{Row, Slot}
-use Rattle.sr_hash.specs.Uses.{digest_of}
 use Rattle.sr_inv_facts.proofs.Books.{found_key}
 use Rattle.sr_inv_facts.proofs.Ranges.{PutFits, entry_fits, put_fits}
 use Rattle.sr_inv_facts.specs.Doing.{MissedReserved}
 use Rattle.sr_inv_facts.specs.InJobs.{JobHolds, PutHolds, seen}
-use Rattle.sr_inv_facts.specs.InShape.{EntryFits}
-use Rattle.sr_inv_facts.specs.InWords.{held_word, job_word, put_word, table_word}
+use Rattle.sr_inv_facts.specs.InWords.{job_word, put_word}
 use Rattle.sr_inv_facts.specs.Invariant.{Invariant}
 use Rattle.sr_inv_facts.specs.Readings.{Speaks, SpeaksLive, entry_words}
 use Rattle.sr_machine.proofs.Written.{empty_says, live_says, reserved_says}
 use Rattle.sr_machine.specs.Core.{Core, printed}
 use Rattle.sr_machine.specs.Reads.{live_word, reserved_word, says, stands_for}
 use Rattle.sr_machine.specs.declared.job.Job.{Job}
-use Rattle.sr_machine.specs.declared.name.Name.TheVariants as name
 use Rattle.sr_machine.specs.declared.put.Put.{Put}
 use Rattle.sr_machine.specs.declared.said.Said.{Said}
 use Rattle.sr_shadow.proofs.Places.{held_elsewhere}
 use Rattle.sr_shadow.proofs.Splits.{Split, split}
 use Rattle.sr_shadow.specs.Book.{DistinctKeys, HeldOnce, entry_for, holder_entry, holder_of}
-use Rattle.sr_shadow.specs.Entry.{holds, is_at, is_of}
+use Rattle.sr_shadow.specs.Entry.{holds, is_at}
 use Rattle.sr_shadow.specs.declared.entry.Entry.{Entry}
 use Rattle.sr_machine.specs.declared.draw.Draw.TheVariants as draw
 use Rattle.sr_machine.specs.declared.job.Job.TheVariants as job

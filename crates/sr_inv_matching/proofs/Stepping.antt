@@ -1,6 +1,6 @@
 -- What steps leave of the words at places and in rings.
-use Rattle.std.proofs.Common.{◌≡◌, ℕ, zero, suc, ◌+◌, ◌<◌, ◌≤◌, Bool, true, false, true≢false, ◌&&◌, nat_lt, ◌≢◌, ◌⊎◌, List, [], ◌∷◌, if◌then◌else◌, ◌==◌, slice_get, slice_set, sum_by, Some, None, Option, sym, refl, ap, ◌∙◌, subst, inl, inr, arith}
-use Rattle.std.proofs.lemmas.Option.{slice_get_within, same_Some}
+use Rattle.std.proofs.Common.{◌≡◌, ℕ, zero, suc, ◌<◌, ◌≤◌, Bool, true, false, true≢false, ◌&&◌, nat_lt, List, [], ◌∷◌, if◌then◌else◌, slice_get, sum_by, Some, sym, refl, ap, ◌∙◌, subst, arith}
+use Rattle.std.proofs.lemmas.Option.{same_Some}
 use Rattle.std.proofs.lemmas.Bool.Decides.{nat_tests}
 use Rattle.std.proofs.lemmas.List.Sums.{sum_by-cons}
 use Rattle.sr_base.specs.Layout.{LayoutView}
@@ -14,7 +14,6 @@ use Rattle.sr_machine.specs.Waiting.{is_under_way}
 use Rattle.sr_machine.specs.Ops.{op_answer, op_name, op_words}
 use Rattle.sr_machine.specs.Pipe.{pipe_op}
 use Rattle.sr_machine.specs.declared.flight.Flight.{Flight}
-use Rattle.sr_machine.specs.declared.leg.Last.{Last}
 use Rattle.sr_machine.specs.declared.leg.Leg.{Leg}
 use Rattle.sr_machine.specs.declared.leg.Leg.TheVariants.{Look, Hit, Filter, Chosen, Judged}
 use Rattle.sr_machine.specs.declared.leg.Load.TheVariants as load
@@ -22,7 +21,6 @@ use Rattle.sr_machine.specs.declared.leg.Last.TheVariants as last
 use Rattle.sr_machine.specs.declared.name.Name.{Name}
 use Rattle.sr_machine.specs.declared.name.Name.TheVariants as name
 use Rattle.sr_machine.specs.declared.op.Op.{Op}
-use Rattle.sr_machine.specs.declared.op.Op.TheVariants as op
 use Rattle.sr_machine.specs.declared.pipe_view.PipeView.{PipeView}
 use Rattle.sr_machine.specs.declared.stage.Stage.{Stage}
 use Rattle.sr_machine.specs.declared.stage.Stage.TheVariants.{Idle, Enter, Note, Vip, Fly, Leave}

@@ -1,7 +1,7 @@
 -- Every event keeps that an opener that nothing has matched is still to look at each place that speaks to its key.
-use Rattle.std.proofs.Common.{◌≡◌, ℕ, ◌+◌, ◌<◌, ◌≤◌, Bool, true, false, ◌≢◌, ◌⊎◌, List, [], ◌∷◌, if◌then◌else◌, ◌==◌, slice_get, slice_set, Some, None, Option, sym, refl, ap, ◌∙◌, subst, inl, inr, arith}
+use Rattle.std.proofs.Common.{◌≡◌, ℕ, ◌+◌, ◌<◌, ◌≤◌, Bool, true, false, ◌≢◌, ◌⊎◌, List, [], ◌∷◌, if◌then◌else◌, ◌==◌, slice_get, slice_set, Some, None, Option, sym, refl, subst, inl, inr, arith}
 use Rattle.std.proofs.lemmas.Bool.Decides.{nat_tests}
-use Rattle.std.proofs.lemmas.Option.{slice_get_within, same_Some}
+use Rattle.std.proofs.lemmas.Option.{slice_get_within}
 use Rattle.sr_base.proofs.Sameness.{same_place-true}
 use Rattle.sr_base.specs.Layout.{LayoutView}
 use Rattle.sr_base.specs.Place.{same_place}
@@ -30,7 +30,7 @@ use Rattle.sr_machine.specs.Ops.{op_answer, op_name, op_words}
 use Rattle.sr_machine.specs.Pipe.{fresh_pipe, pipe_after, pipe_op}
 use Rattle.sr_machine.specs.Reads.{live_word, reserved_word, says}
 use Rattle.sr_machine.specs.Stores.{judged_draw, judged_word}
-use Rattle.sr_machine.specs.Waiting.{all_passed, is_under_way}
+use Rattle.sr_machine.specs.Waiting.{all_passed}
 use Rattle.sr_machine.specs.declared.flight.Flight.{Flight}
 use Rattle.sr_machine.specs.declared.job.Job.{Job}
 use Rattle.sr_machine.specs.declared.leg.Leg.{Leg}

@@ -1,25 +1,20 @@
 -- An opener that nothing has matched is still to look at each place that speaks to its key, but perhaps for one that was reserved behind it.
-use Rattle.std.proofs.Common.{◌≡◌, ℕ, ◌+◌, ◌<◌, ◌≤◌, Bool, true, false, ◌≢◌, ◌⊎◌, List, [], ◌∷◌, if◌then◌else◌, ◌==◌, slice_get, slice_set, Some, None, Option, sym, refl, ap, ◌∙◌, subst, inl, inr, arith}
-use Rattle.std.proofs.lemmas.Option.{slice_get_within, same_Some}
-use Rattle.std.proofs.lemmas.Bool.Decides.{nat_tests}
-use Rattle.sr_base.specs.Key.{KeyView}
+use Rattle.std.proofs.Common.{◌≡◌, ℕ, Bool, true, false, ◌⊎◌, List, [], ◌∷◌, if◌then◌else◌, ◌==◌, sym, refl, ap, ◌∙◌, subst, inl, inr}
 use Rattle.sr_base.specs.Layout.{LayoutView}
 use Rattle.sr_base.specs.declared.kind.Kind.{Kind}
 use Rattle.sr_base.specs.declared.kind.Kind.TheVariants.{Opener, Carry, Ending}
 use Rattle.sr_base.specs.declared.place.Place.{Place}
 use Rattle.sr_base.specs.declared.vip_word.Phase.{Phase}
 use Rattle.sr_base.specs.declared.vip_word.Phase.TheVariants.{Steady, Recording, Holding, Transit}
-use Rattle.sr_hash.specs.Uses.{is_place_of}
 use Rattle.sr_inv_facts.specs.Doing.{MissedReserved}
 use Rattle.sr_inv_facts.specs.Flying.{IfMissed, IfOpener, OnLeg, OnMissing, OnUnmatched}
 use Rattle.sr_inv_facts.specs.InMatching.{Unmatched}
 use Rattle.sr_inv_facts.specs.Readings.{In, Speaks}
 use Rattle.sr_law.specs.declared.verdict.Verdict.{Verdict}
 use Rattle.sr_machine.specs.Reads.{has_bit, read_flag, says}
-use Rattle.sr_machine.specs.Stages.{begun_flight, filtered, filtering, held_or, is_opener, key_bits, key_places, last_at, last_by, leg_after, loaded, looked, looking, marking, missed_in, stage_after, verdict_at, verdict_by}
+use Rattle.sr_machine.specs.Stages.{begun_flight, filtered, filtering, held_or, is_opener, key_bits, key_places, last_at, last_by, leg_after, loaded, looked, looking, missed_in, stage_after, verdict_at, verdict_by}
 use Rattle.sr_machine.specs.declared.flight.Flight.{Flight}
 use Rattle.sr_machine.specs.declared.job.Job.{Job}
-use Rattle.sr_machine.specs.declared.leg.Last.{Last}
 use Rattle.sr_machine.specs.declared.leg.Leg.{Leg}
 use Rattle.sr_machine.specs.declared.leg.Leg.TheVariants.{Look, Hit, Filter, Chosen, Judged}
 use Rattle.sr_machine.specs.declared.leg.Load.{Load}

@@ -3,4 +3,4 @@
 
 mod laws;
 
-pub use laws::unmatched_openers_look;
+pub use laws::{drains_tell_apart, learned_are_unspoken, rings_end, unmatched_openers_look};
