@@ -1,0 +1,3 @@
+pub mod Choices
+pub mod Opens
+pub mod Servers

@@ -1,0 +1,168 @@
+-- Every event keeps that each server is the right one.
+use Rattle.std.proofs.Common.{◌≡◌, ℕ, ◌+◌, ◌<◌, ◌≤◌, ◌&&◌, ◌==◌, Bool, true, false, List, [], ◌∷◌, slice_get, Some, None, Option, option_map, if◌then◌else◌, sym, refl, ap, ◌∙◌, subst, arith}
+use Rattle.std.proofs.lemmas.Bool.Decides.{nat_tests}
+use Rattle.std.proofs.lemmas.Option.{same_Some}
+use Rattle.sr_base.specs.Key.{KeyView}
+use Rattle.sr_base.specs.declared.vip_word.Phase.{Phase}
+use Rattle.sr_base.specs.declared.vip_word.Phase.TheVariants.{Steady, Recording, Holding, Transit}
+use Rattle.sr_inv_clauses.proofs.Choices.{answer_at, entry_used, leg_at, next_used, used_server}
+use Rattle.sr_inv_clauses.specs.Clauses.{ServersRight}
+use Rattle.sr_inv_facts.proofs.Books.{found_key}
+use Rattle.sr_inv_facts.proofs.OpeningLines.{opening_printed}
+use Rattle.sr_inv_facts.proofs.Ranges.{opener_key}
+use Rattle.sr_inv_facts.specs.Fitted.{IsPacket}
+use Rattle.sr_inv_facts.specs.InCauses.{setup_of}
+use Rattle.sr_inv_facts.specs.InFlight.{HasServer}
+use Rattle.sr_inv_facts.specs.InJobs.{AnswerNames, IsDead, seen}
+use Rattle.sr_inv_facts.specs.InUpdate.{is_used, is_ungiven, pool_given}
+use Rattle.sr_inv_facts.specs.Invariant.{Invariant}
+use Rattle.sr_inv_order.proofs.Joined.{each_part}
+use Rattle.sr_inv_order.proofs.Lines.{Owed, lines_keep}
+use Rattle.sr_inv_order.proofs.Rising.{and_true}
+use Rattle.sr_inv_order.specs.Meeting.{EachLine}
+use Rattle.sr_law.specs.Given.{has_pool, last_version}
+use Rattle.sr_law.specs.Pools.{VipPools, picked, pool_of, server_of}
+use Rattle.sr_law.specs.Server.{is_number, is_right_choice, meets_server}
+use Rattle.sr_law.specs.declared.choice.Choice.{Choice}
+use Rattle.sr_law.specs.declared.giving.Giving.{Giving}
+use Rattle.sr_law.specs.declared.line.Line.{Line}
+use Rattle.sr_law.specs.declared.verdict.Verdict.{Verdict}
+use Rattle.sr_machine.specs.Config.{Config}
+use Rattle.sr_machine.specs.Core.{Core, printed}
+use Rattle.sr_machine.specs.Deciding.{is_down, learned, named_at, server_for, verdict_of}
+use Rattle.sr_machine.specs.Draws.{answer_line, draw_line, phase_line}
+use Rattle.sr_machine.specs.Keeping.{Keeps}
+use Rattle.sr_machine.specs.Pipe.{packet_line}
+use Rattle.sr_machine.specs.Stages.{verdict_by}
+use Rattle.sr_machine.specs.declared.draw.Draw.{Draw}
+use Rattle.sr_machine.specs.declared.flight.Flight.{Flight}
+use Rattle.sr_machine.specs.declared.leg.Leg.TheVariants.{Judged}
+use Rattle.sr_machine.specs.declared.pipe_view.PipeView.{PipeView}
+use Rattle.sr_machine.specs.declared.pool_update.PoolUpdate.{PoolUpdate}
+use Rattle.sr_machine.specs.declared.reply.Reply.{Reply}
+use Rattle.sr_machine.specs.declared.stage.Stage.TheVariants.{Fly}
+use Rattle.sr_shadow.specs.Book.{entry_for}
+use Rattle.sr_shadow.specs.declared.entry.Entry.{Entry}
+use Rattle.sr_law.specs.Ticks.{choice_of, chosen}
+use Rattle.sr_machine.specs.declared.draw.Draw.TheVariants as draw
+use Rattle.sr_machine.specs.declared.job.Job.TheVariants as job
+use Rattle.sr_machine.specs.declared.leg.Last.TheVariants as last
+use Rattle.sr_law.specs.declared.line.Line.TheVariants as line
+use Rattle.sr_machine.specs.declared.name.Name.TheVariants as name
+use Rattle.sr_law.specs.declared.verdict.Verdict.TheVariants as verdict
+
+-- ---- a choice
+
+-- a pool that is there is no pool 0
+pool_of_none : (pools : List VipPools) (vip : ℕ) (pool : List ℕ) → pool_of pools vip 0 ≡ Some pool → (P : Type 0) → P
+pool_of_none pools vip pool e P = at (slice_get pools vip) e
+  where
+    at : (o : Option VipPools) → Rattle.std.proofs.Common.option_and_then (λ own. Rattle.sr_law.specs.Pools.numbered own 0) o ≡ Some pool → P
+    at None q = absurd (cc)
+    at (Some own) q = absurd (cc)
+
+-- what the controller knows of a choice, the lines tell
+pub right_choice : (s : Core) → Invariant s → (key : KeyView) (version number server : ℕ)
+    → HasServer s.config s.controller.named key version number server
+    → is_right_choice s.config.pools (printed s) (Some (record { key = key; server = server; version = version; pool = number })) ≡ true
+right_choice s i key version number server h =
+    and_true (has_pool (last_version (printed s) key.vip version) number) (is_number (server_of s.config.pools number key) server)
+    (at (last_version (printed s) key.vip version) (sym (i.update.versions.pool key.vip version) ∙ h.names))
+    (ap (λ o. is_number (option_map (λ pool. picked pool key) o) server) h.there ∙ same h.is)
+  where
+    same : server ≡ picked h.pool key → (picked h.pool key == server) ≡ true
+    same e = grind (arith, nat_tests)
+
+    at : (o : Option Giving) → pool_given o ≡ number → has_pool o number ≡ true
+    at None e = pool_of_none s.config.pools key.vip h.pool (ap (λ n. pool_of s.config.pools key.vip n) e ∙ h.there) (false ≡ true)
+    at (Some g) e = grind (arith, nat_tests)
+
+module _ (s : Core) (i : Invariant s) where
+  packet_right : (p : ℕ) (v : PipeView) → slice_get s.pipes p ≡ Some v → (f : Flight) (w : Verdict)
+      → v.stage ≡ Fly f (Judged w last.Out)
+      → meets_server s.config.pools (printed s) (packet_line v.number f w (s.words name.Tick)) ≡ true
+  packet_right p v q f (verdict.To server version number) e =
+      right_choice s i f.packet.key version number server (leg_at s i p v q f (verdict.To server version number) e).server
+  packet_right p v q f (verdict.Down server version number) e =
+      right_choice s i f.packet.key version number server (leg_at s i p v q f (verdict.Down server version number) e).server
+  packet_right p v q f (verdict.Held why) e = refl
+  packet_right p v q f verdict.Full e = refl
+  packet_right p v q f verdict.NoPlace e = refl
+
+  -- the version of an answer is in use
+  pub answer_used : (r : Reply) → s.controller.job ≡ job.Draw (draw.Answer r) → (version : ℕ) → r.version ≡ Some version
+      → is_used s.controller.numbers r.held.key.vip version ≡ true
+  answer_used r e version q =
+      at (entry_for r.held.key s.controller.book.entries) refl
+      (subst (AnswerNames s.config (seen s.controller) r (entry_for r.held.key s.controller.book.entries)) q (answer_at s i r e).names)
+    where
+      at : (o : Option Entry) → entry_for r.held.key s.controller.book.entries ≡ o → AnswerNames s.config (seen s.controller) r o (Some version)
+          → is_used s.controller.numbers r.held.key.vip version ≡ true
+      at (Some n) f names =
+          let is : version ≡ n.version = same_Some version n.version names in
+          subst (λ key. is_used s.controller.numbers key.vip version ≡ true) (sym (found_key r.held.key s.controller.book.entries n f))
+          (subst (λ m. is_used s.controller.numbers n.key.vip m ≡ true) (sym is) (entry_used s i r.held.key n f))
+      at None f dead =
+          let fits = opener_key s.config i.shape.config.layout s.controller i.shape.book i.shape.controller r.held dead.first in
+          subst (λ m. is_used s.controller.numbers r.held.key.vip m ≡ true) (sym dead.next)
+          (next_used s i r.held.key.vip fits.vip (ap is_ungiven e))
+
+  answer_right : (r : Reply) → s.controller.job ≡ job.Draw (draw.Answer r)
+      → meets_server s.config.pools (printed s) (answer_line s.config s.controller r (s.words name.Tick)) ≡ true
+  answer_right r e = at r.version refl
+    where
+      key : KeyView
+      key = r.held.key
+
+      by : (b : Bool) (version : ℕ) → is_used s.controller.numbers r.held.key.vip version ≡ true
+          → is_right_choice s.config.pools (printed s) (chosen r.held.key (verdict_by b (server_for s.config s.controller.named r.held.key version) version (named_at s.controller.named r.held.key.vip version))) ≡ true
+      by true version u =
+          right_choice s i r.held.key version (named_at s.controller.named r.held.key.vip version) (server_for s.config s.controller.named r.held.key version) (used_server s i r.held.key version u)
+      by false version u =
+          right_choice s i r.held.key version (named_at s.controller.named r.held.key.vip version) (server_for s.config s.controller.named r.held.key version) (used_server s i r.held.key version u)
+
+      at : (o : Option ℕ) → r.version ≡ o
+          → is_right_choice s.config.pools (printed s) (chosen r.held.key (verdict_of s.config s.controller.named s.controller.down r.held.key o)) ≡ true
+      at None q = refl
+      at (Some version) q =
+          by (is_down s.controller.down (server_for s.config s.controller.named r.held.key version)) version (answer_used r e version q)
+
+  drawn_right : (d : Draw) → s.controller.job ≡ job.Draw d → (l : Line) → draw_line s.config s.controller d (s.words name.Tick) ≡ Some l
+      → meets_server s.config.pools (printed s) l ≡ true
+  drawn_right d e l q = at d e q
+    where
+      by : (m : Line) → Some m ≡ Some l → meets_server s.config.pools (printed s) m ≡ true → meets_server s.config.pools (printed s) l ≡ true
+      by m r h = subst (λ z. meets_server s.config.pools (printed s) z ≡ true) (same_Some m l r) h
+
+      phase : (u : PoolUpdate) (p : Phase) → meets_server s.config.pools (printed s) (phase_line u (s.words name.Tick) p) ≡ true
+      phase u Steady = refl
+      phase u Recording = refl
+      phase u Holding = refl
+      phase u Transit = refl
+
+      at : (d : Draw) → s.controller.job ≡ job.Draw d → draw_line s.config s.controller d (s.words name.Tick) ≡ Some l
+          → meets_server s.config.pools (printed s) l ≡ true
+      at (draw.Grace w) e q = cc
+      at (draw.From ms) e q = cc
+      at (draw.Answer r) e q = by (answer_line s.config s.controller r (s.words name.Tick)) q (answer_right r e)
+      at (draw.Comes u p) e q = by (phase_line u (s.words name.Tick) p) q (phase u p)
+      at (draw.Refused n) e q = by (line.Refused (s.words name.Tick) n) q refl
+      at (draw.TakenDown n) e q = by (line.TakenDown (s.words name.Tick) n) q refl
+      at (draw.Given u) e q = by (line.Given (s.words name.Tick) u.vip u.given u.pool) q refl
+      at (draw.Reserved p) e q = by (line.Reserved (s.words name.Tick) p.key p.place) q refl
+      at (draw.Placed p) e q = by (line.Placed (s.words name.Tick) p.key p.place) q refl
+      at (draw.Cleared key place w) e q = by (line.Cleared (s.words name.Tick) key place) q refl
+      at (draw.Retired key place version) e q = by (line.Retired (s.words name.Tick) key) q refl
+      at (draw.Swept from ms) e q = by (line.Swept (s.controller.sweeps + 1) from (s.words name.Tick) ms) q refl
+
+abbrev pub Right : Config → List Line → Line → Type 0
+Right k before l = meets_server k.pools before l ≡ true
+
+pub servers_keep : Keeps IsPacket Invariant ServersRight
+servers_keep = lines_keep Right (record {
+  packet = λ s i p v q f w e. packet_right s i p v q f w e;
+  drawn = λ s i d e l q. drawn_right s i d e l q;
+})
+
+pub servers_part : (s : Core) → Invariant s → ServersRight s
+servers_part s i = each_part (setup_of s.config) _ (Right s.config) (λ before l m. m.server) (printed s) i.causes.causes.clauses

@@ -1,0 +1,12 @@
+//! What every event keeps.
+
+ghost use Rattle.sr_inv_clauses.specs.Clauses.{NumbersFree, PoolsNewer, PoolsSame, ServersRight};
+ghost use Rattle.sr_inv_facts.specs.Laws.{BegunKeeps, EventsKeep, OpensWith};
+
+/// A law: at every moment each server that a line names is the one that its key's hash picks from the pool that the line's version was last
+/// given; so it is at the opening, and so it stays with every event.
+pub fn servers_are_right()
+    ensures opening { OpensWith ServersRight }
+    ensures begun { BegunKeeps ServersRight }
+    ensures event { EventsKeep ServersRight }
+{}
