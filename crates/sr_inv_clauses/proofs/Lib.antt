@@ -1,3 +1,5 @@
 pub mod Choices
+pub mod Drawn
 pub mod Opens
+pub mod SamePools
 pub mod Servers

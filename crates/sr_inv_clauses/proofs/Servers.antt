@@ -6,6 +6,7 @@ use Rattle.sr_base.specs.Key.{KeyView}
 use Rattle.sr_base.specs.declared.vip_word.Phase.{Phase}
 use Rattle.sr_base.specs.declared.vip_word.Phase.TheVariants.{Steady, Recording, Holding, Transit}
 use Rattle.sr_inv_clauses.proofs.Choices.{answer_at, entry_used, leg_at, next_used, used_server}
+use Rattle.sr_inv_clauses.proofs.Drawn.{EachDraw, drawn_by, each_phase}
 use Rattle.sr_inv_clauses.specs.Clauses.{ServersRight}
 use Rattle.sr_inv_facts.proofs.Books.{found_key}
 use Rattle.sr_inv_facts.proofs.OpeningLines.{opening_printed}
@@ -127,33 +128,20 @@ module _ (s : Core) (i : Invariant s) where
       at (Some version) q =
           by (is_down s.controller.down (server_for s.config s.controller.named r.held.key version)) version (answer_used r e version q)
 
-  drawn_right : (d : Draw) → s.controller.job ≡ job.Draw d → (l : Line) → draw_line s.config s.controller d (s.words name.Tick) ≡ Some l
-      → meets_server s.config.pools (printed s) l ≡ true
-  drawn_right d e l q = at d e q
-    where
-      by : (m : Line) → Some m ≡ Some l → meets_server s.config.pools (printed s) m ≡ true → meets_server s.config.pools (printed s) l ≡ true
-      by m r h = subst (λ z. meets_server s.config.pools (printed s) z ≡ true) (same_Some m l r) h
-
-      phase : (u : PoolUpdate) (p : Phase) → meets_server s.config.pools (printed s) (phase_line u (s.words name.Tick) p) ≡ true
-      phase u Steady = refl
-      phase u Recording = refl
-      phase u Holding = refl
-      phase u Transit = refl
-
-      at : (d : Draw) → s.controller.job ≡ job.Draw d → draw_line s.config s.controller d (s.words name.Tick) ≡ Some l
-          → meets_server s.config.pools (printed s) l ≡ true
-      at (draw.Grace w) e q = cc
-      at (draw.From ms) e q = cc
-      at (draw.Answer r) e q = by (answer_line s.config s.controller r (s.words name.Tick)) q (answer_right r e)
-      at (draw.Comes u p) e q = by (phase_line u (s.words name.Tick) p) q (phase u p)
-      at (draw.Refused n) e q = by (line.Refused (s.words name.Tick) n) q refl
-      at (draw.TakenDown n) e q = by (line.TakenDown (s.words name.Tick) n) q refl
-      at (draw.Given u) e q = by (line.Given (s.words name.Tick) u.vip u.given u.pool) q refl
-      at (draw.Reserved p) e q = by (line.Reserved (s.words name.Tick) p.key p.place) q refl
-      at (draw.Placed p) e q = by (line.Placed (s.words name.Tick) p.key p.place) q refl
-      at (draw.Cleared key place w) e q = by (line.Cleared (s.words name.Tick) key place) q refl
-      at (draw.Retired key place version) e q = by (line.Retired (s.words name.Tick) key) q refl
-      at (draw.Swept from ms) e q = by (line.Swept (s.controller.sweeps + 1) from (s.words name.Tick) ms) q refl
+  drawn_right : EachDraw s (λ l. meets_server s.config.pools (printed s) l ≡ true)
+  drawn_right = record {
+    refused = λ n e. refl;
+    taken_down = λ n e. refl;
+    given = λ u e. refl;
+    comes = λ u p e.
+        each_phase (λ l. meets_server s.config.pools (printed s) l ≡ true) u (s.words name.Tick) refl refl refl refl p;
+    reserved = λ p e. refl;
+    placed = λ p e. refl;
+    cleared = λ key place w e. refl;
+    retired = λ key place version e. refl;
+    answer = λ r e. answer_right r e;
+    swept = λ from ms e. refl;
+  }
 
 abbrev pub Right : Config → List Line → Line → Type 0
 Right k before l = meets_server k.pools before l ≡ true
@@ -161,7 +149,7 @@ Right k before l = meets_server k.pools before l ≡ true
 pub servers_keep : Keeps IsPacket Invariant ServersRight
 servers_keep = lines_keep Right (record {
   packet = λ s i p v q f w e. packet_right s i p v q f w e;
-  drawn = λ s i d e l q. drawn_right s i d e l q;
+  drawn = λ s i d e l q. drawn_by s (Right s.config (printed s)) (drawn_right s i) d e l q;
 })
 
 pub servers_part : (s : Core) → Invariant s → ServersRight s

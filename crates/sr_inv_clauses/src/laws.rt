@@ -10,3 +10,11 @@ pub fn servers_are_right()
     ensures begun { BegunKeeps ServersRight }
     ensures event { EventsKeep ServersRight }
 {}
+
+/// A law: at every moment each line that sends a packet of an open connection that entered after its opening, or would were the server not down, has the
+/// opening's pool; so it is at the opening, and so it stays with every event.
+pub fn pools_are_same()
+    ensures opening { OpensWith PoolsSame }
+    ensures begun { BegunKeeps PoolsSame }
+    ensures event { EventsKeep PoolsSame }
+{}

@@ -3,4 +3,4 @@
 
 mod laws;
 
-pub use laws::servers_are_right;
+pub use laws::{pools_are_same, servers_are_right};
