@@ -1,11 +1,9 @@
 -- What a line's verdict has chosen is what the controller knows of its version.
-use Rattle.std.proofs.Common.{◌≡◌, ℕ, ◌+◌, ◌<◌, ◌≤◌, Bool, true, false, not, List, [], ◌∷◌, slice_get, is_some, Some, None, Option, option_map, option_and_then, unwrap_or, if◌then◌else◌, ◌==◌, sym, refl, ap, ◌∙◌, subst, arith}
-use Rattle.std.proofs.lemmas.Bool.Decides.{nat_tests}
-use Rattle.std.proofs.lemmas.Option.{same_Some}
+use Rattle.std.proofs.Common.{◌≡◌, ℕ, ◌<◌, Bool, true, false, not, slice_get, Some, None, Option, option_map, unwrap_or, refl, ap, subst}
 use Rattle.sr_base.specs.Key.{KeyView}
-use Rattle.sr_inv_facts.proofs.Ranges.{entry_fits, entry_key, learned_below, opener_key}
-use Rattle.sr_inv_facts.specs.InFlight.{HasServer, LegHolds, LegTells, VerdictTells}
-use Rattle.sr_inv_facts.specs.InJobs.{AnswerHolds, AnswerNames, IsDead, JobHolds, seen}
+use Rattle.sr_inv_facts.proofs.Ranges.{learned_below}
+use Rattle.sr_inv_facts.specs.InFlight.{HasServer, LegHolds}
+use Rattle.sr_inv_facts.specs.InJobs.{AnswerHolds, seen}
 use Rattle.sr_inv_facts.specs.InUpdate.{is_used, is_used_by, is_ungiven}
 use Rattle.sr_inv_facts.specs.InWords.{HoldsPool}
 use Rattle.sr_inv_facts.specs.Invariant.{Invariant}
@@ -13,22 +11,19 @@ use Rattle.sr_inv_facts.specs.Flying.{OnLeg}
 use Rattle.sr_inv_facts.specs.Readings.{bit_words}
 use Rattle.sr_inv_order.proofs.Placing.{holds_at}
 use Rattle.sr_inv_update.proofs.VersionEntries.{learned_used}
-use Rattle.sr_law.specs.Pools.{picked, pool_of, server_of}
+use Rattle.sr_law.specs.Pools.{picked}
 use Rattle.sr_law.specs.declared.verdict.Verdict.{Verdict}
-use Rattle.sr_machine.specs.Config.{Config}
 use Rattle.sr_machine.specs.Core.{Core, printed}
 use Rattle.sr_machine.specs.Deciding.{learned, named_at, server_for}
 use Rattle.sr_machine.specs.declared.flight.Flight.{Flight}
-use Rattle.sr_machine.specs.declared.job.Job.{Job}
 use Rattle.sr_machine.specs.declared.leg.Leg.TheVariants.{Judged}
 use Rattle.sr_machine.specs.declared.pipe_view.PipeView.{PipeView}
 use Rattle.sr_machine.specs.declared.reply.Reply.{Reply}
-use Rattle.sr_machine.specs.declared.stage.Stage.{Stage}
 use Rattle.sr_machine.specs.declared.stage.Stage.TheVariants.{Fly}
 use Rattle.sr_shadow.specs.Book.{entry_for}
 use Rattle.sr_shadow.specs.declared.entry.Entry.{Entry}
 use Rattle.sr_update.proofs.Dues.{all_find}
-use Rattle.sr_update.specs.Numbers.{NumberRows, state_of}
+use Rattle.sr_update.specs.Numbers.{state_of}
 use Rattle.sr_update.specs.declared.number_state.NumberState.{NumberState}
 use Rattle.sr_update.specs.Numbers.{is_free}
 use Rattle.sr_machine.specs.declared.draw.Draw.TheVariants as draw

@@ -1,5 +1,5 @@
 -- The lines that the controller prints, as a list of cases.
-use Rattle.std.proofs.Common.{◌≡◌, ℕ, ◌+◌, Some, None, subst}
+use Rattle.std.proofs.Common.{◌≡◌, ℕ, ◌+◌, Some, subst}
 use Rattle.std.proofs.lemmas.Option.{same_Some}
 use Rattle.sr_base.specs.Key.{KeyView}
 use Rattle.sr_base.specs.declared.place.Place.{Place}

@@ -1,5 +1,5 @@
 -- A fact of each line by the lines before it, of the lines of the opening state.
-use Rattle.std.proofs.Common.{◌≡◌, ℕ, zero, suc, ◌<◌, ◌≤◌, true, List, [], ◌∷◌, sym, refl, subst, arith}
+use Rattle.std.proofs.Common.{◌≡◌, ℕ, zero, suc, ◌<◌, ◌≤◌, true, List, sym, refl, subst, arith}
 use Rattle.sr_inv_clauses.specs.Clauses.{ServersRight}
 use Rattle.sr_inv_facts.proofs.OpeningLines.{opened_lines, opening_printed}
 use Rattle.sr_inv_facts.specs.Fitted.{IsFitted}

@@ -1,5 +1,5 @@
 -- Every event keeps that each packet that entered after its connection's opening has the opening's pool.
-use Rattle.std.proofs.Common.{◌≡◌, ℕ, ◌+◌, ◌<◌, ◌≤◌, ◌||◌, ◌==◌, nat_le, Bool, true, false, ◌⊎◌, List, [], ◌∷◌, slice_get, is_some, IfSome, Some, None, Option, if◌then◌else◌, sym, refl, ap, ◌∙◌, subst, inl, inr, arith}
+use Rattle.std.proofs.Common.{◌≡◌, ℕ, ◌<◌, ◌||◌, ◌==◌, nat_le, Bool, true, false, List, slice_get, is_some, IfSome, Some, None, Option, sym, refl, ap, ◌∙◌, subst, inl, inr, arith}
 use Rattle.std.proofs.lemmas.Bool.Decides.{nat_tests}
 use Rattle.std.proofs.lemmas.Option.{same_Some}
 use Rattle.sr_base.specs.Key.{KeyView}
@@ -12,19 +12,18 @@ use Rattle.sr_inv_facts.proofs.Books.{found_key}
 use Rattle.sr_inv_facts.specs.Fitted.{IsPacket}
 use Rattle.sr_inv_facts.specs.Flying.{OnLeg}
 use Rattle.sr_inv_facts.specs.InCauses.{setup_of}
-use Rattle.sr_inv_facts.specs.InJobs.{AnswerNames, IsDead, seen}
+use Rattle.sr_inv_facts.specs.InJobs.{AnswerNames, seen}
 use Rattle.sr_inv_facts.specs.InOpenings.{EntryOpened, IfUnregistered, IsReported, NothingLearned, OpenedAs}
 use Rattle.sr_inv_facts.specs.Doing.{OnAnswer}
 use Rattle.sr_inv_facts.specs.Invariant.{Invariant}
 use Rattle.sr_inv_facts.specs.Laws.{OpensWith}
 use Rattle.sr_inv_facts.specs.OnTrack.{GoesBy, GoesVerdict, IsKnown, IsOnDuty}
-use Rattle.sr_inv_facts.specs.Readings.{SomeLearn, bit_words, entry_words, ring_words}
+use Rattle.sr_inv_facts.specs.Readings.{bit_words, entry_words, ring_words}
 use Rattle.sr_inv_order.proofs.Joined.{each_part}
 use Rattle.sr_inv_order.proofs.Lines.{lines_keep}
 use Rattle.sr_law.specs.Opening.{opening}
 use Rattle.sr_law.specs.Same.{keeps_choice, keeps_pool, meets_same}
-use Rattle.sr_law.specs.Ticks.{choice_of, chosen, start_of}
-use Rattle.sr_law.specs.declared.choice.Choice.{Choice}
+use Rattle.sr_law.specs.Ticks.{chosen}
 use Rattle.sr_law.specs.declared.line.Line.{Line}
 use Rattle.sr_law.specs.declared.opening.Opening.{Opening}
 use Rattle.sr_law.specs.declared.verdict.Verdict.{Verdict}
@@ -36,11 +35,9 @@ use Rattle.sr_machine.specs.Keeping.{Keeps}
 use Rattle.sr_machine.specs.Pipe.{packet_line}
 use Rattle.sr_machine.specs.Stages.{verdict_by}
 use Rattle.sr_machine.specs.declared.flight.Flight.{Flight}
-use Rattle.sr_machine.specs.declared.job.Job.{Job}
 use Rattle.sr_machine.specs.declared.leg.Leg.TheVariants.{Judged}
 use Rattle.sr_machine.specs.declared.pipe_view.PipeView.{PipeView}
 use Rattle.sr_machine.specs.declared.reply.Reply.{Reply}
-use Rattle.sr_machine.specs.declared.stage.Stage.{Stage}
 use Rattle.sr_machine.specs.declared.stage.Stage.TheVariants.{Fly}
 use Rattle.sr_shadow.proofs.Books.{registered_found}
 use Rattle.sr_shadow.specs.Book.{entry_for, is_registered}
@@ -59,7 +56,7 @@ pub record IsKnownOpen (s : Core) (key : KeyView) (o : Opening) : Type 0 where
   pub pool : o.pool ≡ named_at s.controller.named key.vip o.version
 
 module _ (s : Core) (i : Invariant s) where
-  abbrev Opened : Entry → Option Opening → Type 0
+  abbrev pub Opened : Entry → Option Opening → Type 0
   Opened e o = EntryOpened s.config s.controller.vips s.controller.named s.controller.down s.controller.job s.pipes e o
 
   pub entry_opened : (key : KeyView) (e : Entry) → entry_for key s.controller.book.entries ≡ Some e → Opened e (opening (printed s) key)

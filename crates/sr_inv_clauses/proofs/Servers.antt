@@ -3,52 +3,44 @@ use Rattle.std.proofs.Common.{◌≡◌, ℕ, ◌+◌, ◌<◌, ◌≤◌, ◌&&
 use Rattle.std.proofs.lemmas.Bool.Decides.{nat_tests}
 use Rattle.std.proofs.lemmas.Option.{same_Some}
 use Rattle.sr_base.specs.Key.{KeyView}
-use Rattle.sr_base.specs.declared.vip_word.Phase.{Phase}
-use Rattle.sr_base.specs.declared.vip_word.Phase.TheVariants.{Steady, Recording, Holding, Transit}
 use Rattle.sr_inv_clauses.proofs.Choices.{answer_at, entry_used, leg_at, next_used, used_server}
 use Rattle.sr_inv_clauses.proofs.Drawn.{EachDraw, drawn_by, each_phase}
 use Rattle.sr_inv_clauses.specs.Clauses.{ServersRight}
 use Rattle.sr_inv_facts.proofs.Books.{found_key}
-use Rattle.sr_inv_facts.proofs.OpeningLines.{opening_printed}
 use Rattle.sr_inv_facts.proofs.Ranges.{opener_key}
 use Rattle.sr_inv_facts.specs.Fitted.{IsPacket}
 use Rattle.sr_inv_facts.specs.InCauses.{setup_of}
 use Rattle.sr_inv_facts.specs.InFlight.{HasServer}
-use Rattle.sr_inv_facts.specs.InJobs.{AnswerNames, IsDead, seen}
+use Rattle.sr_inv_facts.specs.InJobs.{AnswerNames, seen}
 use Rattle.sr_inv_facts.specs.InUpdate.{is_used, is_ungiven, pool_given}
 use Rattle.sr_inv_facts.specs.Invariant.{Invariant}
 use Rattle.sr_inv_order.proofs.Joined.{each_part}
-use Rattle.sr_inv_order.proofs.Lines.{Owed, lines_keep}
+use Rattle.sr_inv_order.proofs.Lines.{lines_keep}
 use Rattle.sr_inv_order.proofs.Rising.{and_true}
-use Rattle.sr_inv_order.specs.Meeting.{EachLine}
 use Rattle.sr_law.specs.Given.{has_pool, last_version}
 use Rattle.sr_law.specs.Pools.{VipPools, picked, pool_of, server_of}
 use Rattle.sr_law.specs.Server.{is_number, is_right_choice, meets_server}
-use Rattle.sr_law.specs.declared.choice.Choice.{Choice}
 use Rattle.sr_law.specs.declared.giving.Giving.{Giving}
 use Rattle.sr_law.specs.declared.line.Line.{Line}
 use Rattle.sr_law.specs.declared.verdict.Verdict.{Verdict}
 use Rattle.sr_machine.specs.Config.{Config}
 use Rattle.sr_machine.specs.Core.{Core, printed}
-use Rattle.sr_machine.specs.Deciding.{is_down, learned, named_at, server_for, verdict_of}
-use Rattle.sr_machine.specs.Draws.{answer_line, draw_line, phase_line}
+use Rattle.sr_machine.specs.Deciding.{is_down, named_at, server_for, verdict_of}
+use Rattle.sr_machine.specs.Draws.{answer_line}
 use Rattle.sr_machine.specs.Keeping.{Keeps}
 use Rattle.sr_machine.specs.Pipe.{packet_line}
 use Rattle.sr_machine.specs.Stages.{verdict_by}
-use Rattle.sr_machine.specs.declared.draw.Draw.{Draw}
 use Rattle.sr_machine.specs.declared.flight.Flight.{Flight}
 use Rattle.sr_machine.specs.declared.leg.Leg.TheVariants.{Judged}
 use Rattle.sr_machine.specs.declared.pipe_view.PipeView.{PipeView}
-use Rattle.sr_machine.specs.declared.pool_update.PoolUpdate.{PoolUpdate}
 use Rattle.sr_machine.specs.declared.reply.Reply.{Reply}
 use Rattle.sr_machine.specs.declared.stage.Stage.TheVariants.{Fly}
 use Rattle.sr_shadow.specs.Book.{entry_for}
 use Rattle.sr_shadow.specs.declared.entry.Entry.{Entry}
-use Rattle.sr_law.specs.Ticks.{choice_of, chosen}
+use Rattle.sr_law.specs.Ticks.{chosen}
 use Rattle.sr_machine.specs.declared.draw.Draw.TheVariants as draw
 use Rattle.sr_machine.specs.declared.job.Job.TheVariants as job
 use Rattle.sr_machine.specs.declared.leg.Last.TheVariants as last
-use Rattle.sr_law.specs.declared.line.Line.TheVariants as line
 use Rattle.sr_machine.specs.declared.name.Name.TheVariants as name
 use Rattle.sr_law.specs.declared.verdict.Verdict.TheVariants as verdict
 

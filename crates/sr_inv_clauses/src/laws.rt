@@ -18,3 +18,19 @@ pub fn pools_are_same()
     ensures begun { BegunKeeps PoolsSame }
     ensures event { EventsKeep PoolsSame }
 {}
+
+/// A law: at every moment each line that opens a connection uses the pool that its virtual address was last switched to before the line started, or a later
+/// one, and none that wasn't given; so it is at the opening, and so it stays with every event.
+pub fn pools_are_newer()
+    ensures opening { OpensWith PoolsNewer }
+    ensures begun { BegunKeeps PoolsNewer }
+    ensures event { EventsKeep PoolsNewer }
+{}
+
+/// A law: at every moment each version that was given is one of the shape, wasn't the last one of its virtual address, and was the version of no open
+/// connection; so it is at the opening, and so it stays with every event.
+pub fn numbers_are_free()
+    ensures opening { OpensWith NumbersFree }
+    ensures begun { BegunKeeps NumbersFree }
+    ensures event { EventsKeep NumbersFree }
+{}

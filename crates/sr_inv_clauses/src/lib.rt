@@ -3,4 +3,4 @@
 
 mod laws;
 
-pub use laws::{pools_are_same, servers_are_right};
+pub use laws::{numbers_are_free, pools_are_newer, pools_are_same, servers_are_right};

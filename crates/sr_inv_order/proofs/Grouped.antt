@@ -1,5 +1,5 @@
 -- Each line that is printed goes on with the update that is under way, and names the pool that comes next.
-use Rattle.std.proofs.Common.{◌≡◌, ℕ, suc, ◌+◌, ◌<◌, ◌≤◌, ◌≢◌, nat_lt, nat_le, ◌==◌, ◌&&◌, not, Bool, true, false, List, [], ◌∷◌, length, Some, None, Option, is_some, if◌then◌else◌, sym, refl, ap, ◌∙◌, subst, arith}
+use Rattle.std.proofs.Common.{◌≡◌, ℕ, suc, ◌+◌, ◌≢◌, nat_lt, ◌==◌, ◌&&◌, not, Bool, true, false, List, [], ◌∷◌, length, Some, Option, is_some, if◌then◌else◌, sym, refl, ap, ◌∙◌, subst, arith}
 use Rattle.std.proofs.lemmas.Bool.Decides.{nat_tests}
 use Rattle.std.specs.List.{list_any}
 use Rattle.sr_base.specs.declared.change.Change.{Change}
@@ -9,13 +9,12 @@ use Rattle.sr_base.specs.declared.vip_word.VipWord.{VipWord}
 use Rattle.sr_inv_facts.proofs.Lists.{of_some}
 use Rattle.sr_inv_facts.specs.Fitted.{IsFitted}
 use Rattle.sr_inv_facts.specs.InCauses.{setup_of}
-use Rattle.sr_inv_facts.specs.InUpdate.{At, AtFirst, AtPhase, JobAt, OnGiven, OnUngiven, UpdateFits, group_by, group_of_phase, is_ungiven, newest}
+use Rattle.sr_inv_facts.specs.InUpdate.{At, AtFirst, AtPhase, JobAt, OnGiven, OnUngiven, UpdateFits, group_by, group_of_phase, newest}
 use Rattle.sr_inv_facts.specs.Invariant.{Invariant}
 use Rattle.sr_inv_order.proofs.Rising.{and_true, not_false}
 use Rattle.sr_law.specs.Given.{has_pool, last_given}
-use Rattle.sr_law.specs.Groups.{after_gives, goes_on, is_opening_give, is_over, keeps_groups, last_of_update, names_next_pool, was_given, was_given_past, was_held, was_recorded, was_switched}
-use Rattle.sr_law.specs.Pools.{VipPools, pool_of, pools_from}
-use Rattle.sr_law.specs.declared.giving.Giving.{Giving}
+use Rattle.sr_law.specs.Groups.{after_gives, goes_on, is_opening_give, is_over, keeps_groups, last_of_update, names_next_pool, was_given, was_given_past, was_switched}
+use Rattle.sr_law.specs.Pools.{pool_of, pools_from}
 use Rattle.sr_law.specs.declared.line.Line.{Line}
 use Rattle.sr_machine.specs.Config.{Config}
 use Rattle.sr_machine.specs.Core.{Core, printed}
@@ -28,7 +27,6 @@ use Rattle.sr_machine.specs.declared.pool_update.PoolUpdate.{PoolUpdate}
 use Rattle.sr_machine.specs.declared.draw.Draw.TheVariants as draw
 use Rattle.sr_machine.specs.declared.job.Job.TheVariants as job
 use Rattle.sr_law.specs.declared.line.Line.TheVariants as line
-use Rattle.sr_machine.specs.declared.name.Name.TheVariants as name
 
 -- ---- the pools
 

@@ -1,7 +1,6 @@
 -- Each line that is printed names what the setup has: virtual addresses, pipes, servers, and places of its key.
-use Rattle.std.proofs.Common.{◌≡◌, ℕ, zero, suc, ◌<◌, nat_lt, nat_eq, ◌==◌, ◌&&◌, ◌||◌, Bool, true, false, List, [], ◌∷◌, ◌++◌, length, map, slice_get, Some, None, Option, option_map, option_and_then, unwrap_or, if◌then◌else◌, sym, refl, ap, ◌∙◌, subst, arith}
+use Rattle.std.proofs.Common.{◌≡◌, ℕ, ◌<◌, nat_lt, ◌&&◌, Bool, true, false, List, [], ◌∷◌, ◌++◌, length, Some, None, Option, option_map, unwrap_or, refl, ap, ◌∙◌, subst, arith}
 use Rattle.std.proofs.lemmas.Bool.Decides.{nat_tests}
-use Rattle.std.proofs.lemmas.Option.{same_Some}
 use Rattle.std.specs.List.{AllByRecursion}
 use Rattle.sr_base.specs.Fitting.{IsPoolOf, NamesOf}
 use Rattle.sr_base.specs.Key.{KeyView}
@@ -9,10 +8,8 @@ use Rattle.sr_base.specs.Layout.{LayoutView}
 use Rattle.sr_base.specs.declared.change.Change.{Change}
 use Rattle.sr_base.specs.declared.change.What.{What}
 use Rattle.sr_base.specs.declared.change.What.TheVariants.{Give, TakeDown}
-use Rattle.sr_base.specs.declared.place.Place.{Place}
-use Rattle.sr_hash.specs.Uses.{is_place_of, selected}
+use Rattle.sr_hash.specs.Uses.{selected}
 use Rattle.sr_inv_facts.proofs.Lists.{all_back, all_front, got_or}
-use Rattle.sr_inv_facts.proofs.Ranges.{KeyFits, entry_fits, entry_key, opener_key, put_fits}
 use Rattle.sr_inv_facts.specs.InCauses.{setup_of}
 use Rattle.sr_inv_facts.specs.InShape.{VerdictFits, downing, servers_of}
 use Rattle.sr_inv_facts.specs.Invariant.{Invariant}
@@ -23,13 +20,11 @@ use Rattle.sr_law.specs.Pools.{picked, pool_of}
 use Rattle.sr_law.specs.Ranges.{if_below, in_range, names_own_place, pipe_of, server_named, vip_of}
 use Rattle.sr_law.specs.declared.line.Line.{Line}
 use Rattle.sr_law.specs.declared.verdict.Verdict.{Verdict}
-use Rattle.sr_machine.specs.Config.{Config}
-use Rattle.sr_machine.specs.Core.{Core, printed}
-use Rattle.sr_machine.specs.Deciding.{is_down, named_at, server_for, verdict_of, verdict_under}
+use Rattle.sr_machine.specs.Core.{Core}
+use Rattle.sr_machine.specs.Deciding.{is_down, named_at, server_for, verdict_of}
 use Rattle.sr_machine.specs.Opening.{outages_in}
 use Rattle.sr_machine.specs.Stages.{verdict_by}
 use Rattle.sr_law.specs.Ticks.{chosen}
-use Rattle.sr_machine.specs.declared.outage.Outage.{Outage}
 use Rattle.sr_machine.specs.declared.draw.Draw.TheVariants as draw
 use Rattle.sr_machine.specs.declared.job.Job.TheVariants as job
 use Rattle.sr_law.specs.declared.verdict.Verdict.TheVariants as verdict

@@ -1,5 +1,5 @@
 -- The lines of the opening state stand in order.
-use Rattle.std.proofs.Common.{◌≡◌, ℕ, zero, suc, ◌+◌, ◌<◌, ◌≤◌, nat_lt, nat_le, ◌==◌, ◌&&◌, not, Bool, true, false, List, [], ◌∷◌, length, Some, None, Option, is_some, if◌then◌else◌, slice_get, option_and_then, sym, refl, ap, ◌∙◌, subst, arith}
+use Rattle.std.proofs.Common.{◌≡◌, ℕ, zero, suc, ◌+◌, ◌<◌, ◌≤◌, nat_lt, ◌==◌, ◌&&◌, not, true, false, List, [], ◌∷◌, length, is_some, if◌then◌else◌, slice_get, option_and_then, sym, refl, ap, ◌∙◌, subst, arith}
 use Rattle.std.proofs.lemmas.Bool.Decides.{nat_tests}
 use Rattle.std.specs.List.{AllByRecursion, list_any}
 use Rattle.sr_base.specs.declared.change.Change.{Change}
@@ -14,15 +14,13 @@ use Rattle.sr_inv_order.proofs.Rising.{Untouched, after_all, and_false, and_true
 use Rattle.sr_inv_order.specs.Meeting.{EachLine, OrderKept}
 use Rattle.sr_law.specs.Groups.{after_gives, goes_on, is_opening_give, keeps_groups, last_of_update, names_next_pool, was_given_past}
 use Rattle.sr_law.specs.Order.{meets_order}
-use Rattle.sr_law.specs.Pools.{VipPools, numbered, pool_of, pools_from}
-use Rattle.sr_law.specs.Ranges.{if_below, in_range}
+use Rattle.sr_law.specs.Pools.{numbered, pool_of, pools_from}
+use Rattle.sr_law.specs.Ranges.{in_range}
 use Rattle.sr_law.specs.Rising.{has_new_ticks, rises, share_tick}
-use Rattle.sr_law.specs.Setup.{SetupView}
 use Rattle.sr_law.specs.Taken.{keeps_places}
 use Rattle.sr_law.specs.Ticks.{out_of, start_of}
 use Rattle.sr_law.specs.declared.line.Line.{Line}
 use Rattle.sr_machine.specs.Config.{Config}
-use Rattle.sr_machine.specs.Core.{opening, printed}
 use Rattle.sr_machine.specs.Opening.{opening_line}
 
 -- the line was drawn before this virtual address's, and gives another one its pool
@@ -36,7 +34,7 @@ earlier vip zero h = tt
 earlier vip (suc n) h =
     (record { out = omega arith; start = omega arith; other = and_false (n == vip) true (grind (arith, nat_tests)) }, earlier vip n (omega arith))
 
-opened_count : (n : ℕ) → length (opened_lines n) ≡ n
+pub opened_count : (n : ℕ) → length (opened_lines n) ≡ n
 opened_count zero = refl
 opened_count (suc n) = ap suc (opened_count n)
 

@@ -1,6 +1,5 @@
 -- Every event keeps the lines in order.
-use Rattle.std.proofs.Common.{◌≡◌, ℕ, zero, suc, ◌+◌, ◌<◌, ◌≤◌, nat_lt, nat_le, ◌==◌, ◌&&◌, not, Bool, true, false, List, [], ◌∷◌, length, slice_get, Some, None, Option, option_map, is_none, is_some, if◌then◌else◌, sym, refl, ap, ◌∙◌, subst, arith}
-use Rattle.std.proofs.lemmas.Bool.Decides.{nat_tests}
+use Rattle.std.proofs.Common.{◌≡◌, ℕ, ◌+◌, ◌<◌, ◌≤◌, nat_lt, ◌&&◌, true, false, ◌∷◌, slice_get, Some, sym, refl, subst, arith}
 use Rattle.std.proofs.lemmas.Option.{same_Some, slice_get_within}
 use Rattle.std.specs.List.{AllByRecursion, list_any}
 use Rattle.sr_base.specs.Key.{KeyView}
@@ -14,7 +13,6 @@ use Rattle.sr_inv_facts.proofs.Ranges.{KeyFits, entry_fits, entry_key, opener_ke
 use Rattle.sr_inv_facts.specs.Fitted.{IsPacket}
 use Rattle.sr_inv_facts.specs.Flying.{OnEntered}
 use Rattle.sr_inv_facts.specs.InCauses.{setup_of}
-use Rattle.sr_inv_facts.specs.InJobs.{AnswerHolds, ClearedHolds, IsLeft, LiveHolds, PutHolds, RetiredHolds}
 use Rattle.sr_inv_facts.specs.InShape.{OpenerFits, StageFits}
 use Rattle.sr_inv_facts.specs.InTicks.{AllOutBefore, OnSweep, job_times, stage_times}
 use Rattle.sr_inv_facts.specs.InUpdate.{OnRefused}
@@ -33,20 +31,17 @@ use Rattle.sr_law.specs.Taken.{keeps_places}
 use Rattle.sr_law.specs.Ticks.{out_of, start_of}
 use Rattle.sr_law.specs.declared.line.Line.{Line}
 use Rattle.sr_law.specs.declared.verdict.Verdict.{Verdict}
-use Rattle.sr_machine.specs.Config.{Config}
 use Rattle.sr_machine.specs.Core.{Core, printed}
 use Rattle.sr_machine.specs.Draws.{answer_line, draw_line, phase_line}
 use Rattle.sr_machine.specs.Keeping.{Keeps}
 use Rattle.sr_machine.specs.Pipe.{packet_line}
 use Rattle.sr_machine.specs.declared.draw.Draw.{Draw}
 use Rattle.sr_machine.specs.declared.flight.Flight.{Flight}
-use Rattle.sr_machine.specs.declared.job.Job.{Job}
 use Rattle.sr_machine.specs.declared.leg.Leg.TheVariants.{Judged}
 use Rattle.sr_machine.specs.declared.pipe_view.PipeView.{PipeView}
 use Rattle.sr_machine.specs.declared.pool_update.PoolUpdate.{PoolUpdate}
 use Rattle.sr_machine.specs.declared.put.Put.{Put}
 use Rattle.sr_machine.specs.declared.reply.Reply.{Reply}
-use Rattle.sr_machine.specs.declared.stage.Stage.{Stage}
 use Rattle.sr_machine.specs.declared.stage.Stage.TheVariants.{Fly}
 use Rattle.sr_machine.specs.declared.why.Why.{Why}
 use Rattle.sr_machine.specs.declared.draw.Draw.TheVariants as draw

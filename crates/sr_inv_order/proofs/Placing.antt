@@ -1,15 +1,14 @@
 -- Each line that is printed takes a place that nobody has, or places or clears one that its key has.
-use Rattle.std.proofs.Common.{◌≡◌, ℕ, nat_lt, ◌==◌, ◌&&◌, not, Bool, true, false, List, [], ◌∷◌, length, is_none, Some, None, Option, option_map, if◌then◌else◌, sym, refl, ap, ◌∙◌, subst}
+use Rattle.std.proofs.Common.{◌≡◌, nat_lt, ◌&&◌, not, Bool, true, false, List, [], ◌∷◌, length, is_none, Some, None, Option, option_map, if◌then◌else◌, refl, ap, ◌∙◌, subst}
 use Rattle.std.proofs.lemmas.Option.{same_Some}
 use Rattle.std.specs.Option.{option_or}
 use Rattle.sr_base.proofs.Sameness.{same_key-self, same_place-self}
-use Rattle.sr_base.specs.Key.{KeyView, same_key}
+use Rattle.sr_base.specs.Key.{KeyView}
 use Rattle.sr_base.specs.Place.{same_place}
 use Rattle.sr_base.specs.declared.place.Place.{Place}
 use Rattle.sr_inv_facts.specs.InCauses.{AllMeet, setup_of}
 use Rattle.sr_inv_facts.specs.InJobs.{JobHolds, book_taking, is_given_up, job_taking, seen, taking_at}
 use Rattle.sr_inv_facts.specs.Invariant.{Invariant}
-use Rattle.sr_inv_order.proofs.Rising.{and_true}
 use Rattle.sr_law.specs.Order.{meets_order}
 use Rattle.sr_law.specs.Ranges.{if_below, in_range, vip_of}
 use Rattle.sr_law.specs.Retire.{EndingPacket}
@@ -17,12 +16,10 @@ use Rattle.sr_law.specs.Setup.{SetupView}
 use Rattle.sr_law.specs.Taken.{may_clear, may_place, now_placed, taken, taken_after}
 use Rattle.sr_law.specs.declared.line.Line.{Line}
 use Rattle.sr_law.specs.declared.taking.Taking.{Taking}
-use Rattle.sr_machine.specs.Config.{Config}
 use Rattle.sr_machine.specs.Core.{Core, printed}
 use Rattle.sr_machine.specs.declared.job.Job.{Job}
 use Rattle.sr_machine.specs.declared.put.Put.{Put}
 use Rattle.sr_machine.specs.declared.why.Why.{Why}
-use Rattle.sr_shadow.specs.Book.{holder_of}
 use Rattle.sr_machine.specs.declared.draw.Draw.TheVariants as draw
 use Rattle.sr_machine.specs.declared.job.Job.TheVariants as job
 use Rattle.sr_law.specs.declared.line.Line.TheVariants as line

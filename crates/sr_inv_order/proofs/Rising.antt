@@ -1,21 +1,17 @@
 -- Each line that is printed has new ticks, which rise.
-use Rattle.std.proofs.Common.{◌≡◌, ℕ, zero, suc, ◌+◌, ◌<◌, ◌≤◌, ◌≢◌, nat_lt, nat_le, ◌==◌, ◌&&◌, ◌||◌, not, Bool, true, false, List, [], ◌∷◌, ◌++◌, slice_get, Some, None, Option, if◌then◌else◌, sum_by, sym, refl, ap, ◌∙◌, subst, arith}
+use Rattle.std.proofs.Common.{◌≡◌, ℕ, zero, suc, ◌+◌, ◌<◌, ◌≤◌, ◌≢◌, nat_lt, nat_le, ◌==◌, ◌&&◌, ◌||◌, not, Bool, true, false, List, [], ◌∷◌, ◌++◌, slice_get, Some, if◌then◌else◌, sum_by, sym, refl, ap, ◌∙◌, subst, arith}
 use Rattle.std.proofs.lemmas.List.Sums.{sum_by-append, sum_by-cons}
 use Rattle.std.proofs.lemmas.Bool.Decides.{nat_tests}
 use Rattle.std.proofs.lemmas.Option.{same_Some}
 use Rattle.std.specs.List.{AllByRecursion, list_any}
 use Rattle.sr_inv_facts.proofs.Lists.{all_more, all_then}
 use Rattle.sr_inv_facts.proofs.Printing.{all_out, below_next, newest_all}
-use Rattle.sr_inv_facts.specs.InTicks.{AllOutBefore, ControllerInTime, InTicks, IsOfPipe, OnSweep, PipeInTime, below, job_times, line_times, lines_times, pipe_times, same, stage_times, times}
-use Rattle.sr_inv_facts.specs.Invariant.{Invariant}
+use Rattle.sr_inv_facts.specs.InTicks.{AllOutBefore, InTicks, IsOfPipe, below, job_times, line_times, lines_times, pipe_times, same, stage_times}
 use Rattle.sr_law.specs.Rising.{after_last, has_new_ticks, has_two_ticks, is_in_time, one_by_one, rises, share_tick, was_controlling, was_in_pipe}
 use Rattle.sr_law.specs.Ticks.{is_controller, out_of, start_of}
 use Rattle.sr_law.specs.declared.line.Line.{Line}
 use Rattle.sr_machine.specs.Core.{Core, pipe_lines, printed}
-use Rattle.sr_machine.specs.declared.controller_view.ControllerView.{ControllerView}
-use Rattle.sr_machine.specs.declared.job.Job.{Job}
 use Rattle.sr_machine.specs.declared.pipe_view.PipeView.{PipeView}
-use Rattle.sr_machine.specs.declared.stage.Stage.{Stage}
 use Rattle.sr_law.specs.declared.line.Line.TheVariants as line
 use Rattle.sr_machine.specs.declared.name.Name.TheVariants as name
 
