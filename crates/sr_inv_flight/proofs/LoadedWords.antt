@@ -62,7 +62,7 @@ use Rattle.sr_machine.specs.declared.op.Op.TheVariants as op
 -- ---- ticks of packets in flight
 
 -- a packet in flight entered before the next tick, and not at 0
-tick_of : (pipes : List PipeView) (p : ℕ) (v : PipeView) (f : Flight) (leg : Leg) → slice_get pipes p ≡ Some v → v.stage ≡ Fly f leg
+pub tick_of : (pipes : List PipeView) (p : ℕ) (v : PipeView) (f : Flight) (leg : Leg) → slice_get pipes p ≡ Some v → v.stage ≡ Fly f leg
     → 1 ≤ sum_by (pipe_times f.entered) pipes
 tick_of [] p v f leg q e = cc
 tick_of (u ∷ rest) zero v f leg q e =
@@ -85,7 +85,7 @@ entered_drawn s t p v f leg q e =
 
 -- ---- a pipe's step
 
-vip_loaded : (s : Core) (i : Invariant s) (vip : ℕ) → read_vip s.config.layout (s.words (name.Vip vip)) ≡ vip_at s.controller.vips vip
+pub vip_loaded : (s : Core) (i : Invariant s) (vip : ℕ) → read_vip s.config.layout (s.words (name.Vip vip)) ≡ vip_at s.controller.vips vip
 vip_loaded s i vip =
     let l = s.config.layout in
     let w = vip_at s.controller.vips vip in
@@ -269,7 +269,7 @@ module _ (s : Core) (i : Invariant s) where
   after_op j (Some o) h = h (op_answer o (s.words (op_name o)))
 
   -- the packet of this pipe isn't one from before the wait, by the pipe's note
-  noted : (grace pipe p : ℕ) (v : PipeView) (f : Flight) (leg : Leg) → slice_get s.pipes p ≡ Some v → v.stage ≡ Fly f leg
+  pub noted : (grace pipe p : ℕ) (v : PipeView) (f : Flight) (leg : Leg) → slice_get s.pipes p ≡ Some v → v.stage ≡ Fly f leg
       → is_under_way grace (s.words (name.Note pipe)) ≡ false
       → p ≡ pipe → f.entered < grace → ⊥
   noted grace pipe p v f leg r e t same b =

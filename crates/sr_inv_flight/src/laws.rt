@@ -1,6 +1,6 @@
 //! What every event keeps.
 
-ghost use Rattle.sr_inv_facts.specs.InFlight.{CellsFree, ChoicesHold, FiltersSet, WordsLoaded};
+ghost use Rattle.sr_inv_facts.specs.InFlight.{CellsFree, ChoicesHold, FiltersSet, NumbersUsed, WordsLoaded};
 ghost use Rattle.sr_inv_facts.specs.Laws.{BegunKeeps, EventsKeep, OpensWith};
 
 /// A law: an opener that nothing has matched chooses by the word that it loaded, never in the phase that holds openers, and is held by a phase that it
@@ -33,4 +33,11 @@ pub fn cells_are_kept()
     ensures opening { OpensWith CellsFree }
     ensures begun { BegunKeeps CellsFree }
     ensures event { EventsKeep CellsFree }
+{}
+
+/// A law: the version that a packet has found or chosen is in use; so it is at the opening, and so it stays with every event.
+pub fn used_numbers_are_kept()
+    ensures opening { OpensWith NumbersUsed }
+    ensures begun { BegunKeeps NumbersUsed }
+    ensures event { EventsKeep NumbersUsed }
 {}

@@ -3,4 +3,7 @@
 
 mod laws;
 
-pub use laws::{cells_are_kept, choices_are_kept, filter_places_are_kept, loaded_words_are_kept};
+pub use laws::{
+    cells_are_kept, choices_are_kept, filter_places_are_kept, loaded_words_are_kept,
+    used_numbers_are_kept,
+};
