@@ -1,5 +1,5 @@
 -- What holds of the version that a packet chooses or finds holds of it as the packet goes on.
-use Rattle.std.proofs.Common.{◌≡◌, ℕ, Bool, true, false, List, [], ◌∷◌, if◌then◌else◌, ◌==◌, refl}
+use Rattle.std.proofs.Common.{◌≡◌, ℕ, Bool, true, false, List, if◌then◌else◌, ◌==◌}
 use Rattle.sr_base.specs.Layout.{LayoutView}
 use Rattle.sr_base.specs.declared.place.Place.{Place}
 use Rattle.sr_base.specs.declared.vip_word.Phase.TheVariants.{Transit}
@@ -8,7 +8,7 @@ use Rattle.sr_inv_facts.specs.InShape.{LegFits}
 use Rattle.sr_inv_flight.proofs.Steps.{Finds, filtered_finds, found_or, looked_finds, looking_finds}
 use Rattle.sr_law.specs.declared.verdict.Verdict.{Verdict}
 use Rattle.sr_machine.specs.Reads.{has_bit, read_flag, says}
-use Rattle.sr_machine.specs.Stages.{is_opener, key_places, last_at, last_by, leg_after, loaded, looking, marking, verdict_at, verdict_by}
+use Rattle.sr_machine.specs.Stages.{is_opener, leg_after, loaded, looking, verdict_at, verdict_by}
 use Rattle.sr_machine.specs.declared.flight.Flight.{Flight}
 use Rattle.sr_machine.specs.declared.leg.Last.{Last}
 use Rattle.sr_machine.specs.declared.leg.Leg.{Leg}

@@ -1,34 +1,33 @@
 -- A packet of a pipe that a release has passed hasn't the version that it is to free.
-use Rattle.std.proofs.Common.{◌≡◌, ℕ, ◌+◌, ◌<◌, ◌≤◌, Bool, true, false, ◌≢◌, ◌⊎◌, List, [], ◌∷◌, if◌then◌else◌, ◌==◌, slice_get, Some, None, Option, sum_by, sym, refl, ap, ◌∙◌, subst, inl, inr, arith}
+use Rattle.std.proofs.Common.{◌≡◌, ℕ, ◌+◌, ◌<◌, ◌≤◌, Bool, true, false, ◌&&◌, nat_lt, ◌≢◌, ◌⊎◌, List, if◌then◌else◌, slice_get, Some, None, Option, sym, refl, ap, ◌∙◌, subst, inl, inr, arith}
 use Rattle.std.proofs.lemmas.Bool.{cases_eq, cases_lt}
 use Rattle.std.proofs.lemmas.Bool.Decides.{nat_tests}
 use Rattle.std.proofs.lemmas.Option.{slice_get_within}
 use Rattle.sr_base.specs.Key.{KeyView}
-use Rattle.sr_base.specs.Layout.{LayoutView}
 use Rattle.sr_base.specs.declared.vip_word.Phase.{Phase}
 use Rattle.sr_base.specs.declared.vip_word.Phase.TheVariants.{Steady, Recording, Holding, Transit}
 use Rattle.sr_base.specs.declared.vip_word.VipWord.{VipWord}
 use Rattle.sr_inv_facts.proofs.Beginning.{begun_by}
 use Rattle.sr_inv_facts.proofs.Lists.{ranged_at}
-use Rattle.sr_inv_facts.proofs.Pipes.{each_set, each_then}
+use Rattle.sr_inv_facts.proofs.Pipes.{each_set}
 use Rattle.sr_inv_facts.specs.Doing.{OnRelease, OnReleased}
 use Rattle.sr_inv_facts.specs.Fitted.{IsPacket}
 use Rattle.sr_inv_facts.specs.Flying.{OnLeg, OnNumber}
 use Rattle.sr_inv_facts.specs.InFlight.{LegHolds, ReleasesPassed, Unreleased}
-use Rattle.sr_inv_facts.specs.InTicks.{below, job_times, lines_times, pipe_times, same}
+use Rattle.sr_inv_facts.specs.InTicks.{below, job_times, same}
 use Rattle.sr_inv_facts.specs.Invariant.{Invariant}
 use Rattle.sr_inv_facts.specs.Laws.{OpensWith}
 use Rattle.sr_inv_facts.specs.Readings.{EachPipe, bit_words}
 use Rattle.sr_inv_flight.proofs.LoadedWords.{entered_drawn, noted, tick_of}
 use Rattle.sr_inv_flight.proofs.Steps.{OnOp, leg_then}
-use Rattle.sr_inv_flight.proofs.UsedNumbers.{Standing, numbers_step}
+use Rattle.sr_inv_flight.proofs.UsedNumbers.{numbers_step}
 use Rattle.sr_machine.proofs.Following.{goes}
 use Rattle.sr_machine.specs.Begins.{Begins}
 use Rattle.sr_machine.specs.Config.{Config}
 use Rattle.sr_machine.specs.Core.{Core, opening}
 use Rattle.sr_machine.specs.Draws.{cleared_job, phase_job}
 use Rattle.sr_machine.specs.Goes.{Goes}
-use Rattle.sr_machine.specs.Jobs.{job_next, job_op}
+use Rattle.sr_machine.specs.Jobs.{book_next, job_next, job_op}
 use Rattle.sr_machine.specs.Keeping.{AfterJob, AfterStage, Keeps, begun_core}
 use Rattle.sr_machine.specs.Opening.{opening_pipes}
 use Rattle.sr_machine.specs.Ops.{op_answer, op_name}
@@ -41,7 +40,7 @@ use Rattle.sr_machine.specs.declared.controller_view.ControllerView.{ControllerV
 use Rattle.sr_machine.specs.declared.flight.Flight.{Flight}
 use Rattle.sr_machine.specs.declared.job.Job.{Job}
 use Rattle.sr_machine.specs.declared.leg.Leg.{Leg}
-use Rattle.sr_machine.specs.declared.leg.Leg.TheVariants.{Look, Hit, Filter, Chosen, Judged}
+use Rattle.sr_machine.specs.declared.leg.Leg.TheVariants.{Hit, Chosen, Judged}
 use Rattle.sr_machine.specs.declared.op.Op.{Op}
 use Rattle.sr_machine.specs.declared.pipe_view.PipeView.{PipeView}
 use Rattle.sr_machine.specs.declared.pool_update.PoolUpdate.{PoolUpdate}
@@ -191,22 +190,114 @@ module _ (Q : ℕ → ℕ → Type 0) (p entered : ℕ) where
 
 -- ---- the controller's step
 
+-- what the steps answer on which a wait goes on: the next tick, or a note
+abbrev IsAnswer : Core → Job → ℕ → Type 0
+IsAnswer s (job.Draw (draw.Grace w)) x = x ≡ s.words name.Tick
+IsAnswer s (job.Pass g pipe w) x = x ≡ s.words (name.Note pipe)
+IsAnswer s j x = Unit {0}
+
 module _ (s : Core) (i : Invariant s) (p : ℕ) (v : PipeView) (f : Flight) (leg : Leg) (r : slice_get s.pipes p ≡ Some v) (e : v.stage ≡ Fly f leg) where
   -- the packet's tick isn't the wait's
   apart : (g pipe : ℕ) (w : Wait) → s.controller.job ≡ job.Pass g pipe w → f.entered ≢ g
-  apart g pipe w q same_tick = at (below f.entered (s.words name.Tick)) (most f.entered (s.words name.Tick))
+  apart g pipe w q h =
+      let ours : 1 ≤ job_times f.entered s.controller.job =
+      subst (λ j. 1 ≤ job_times f.entered j) (sym q) (subst (λ t. 1 ≤ same f.entered t) h (grind (arith, nat_tests))) in
+      omega (arith, i.ticks.once f.entered, tick_of s.pipes p v f leg r e, ours, most f.entered (s.words name.Tick))
     where
       most : (t n : ℕ) → below t n ≤ 1
-      most t n = ?
-
-      at : (b : ℕ) → b ≤ 1 → ⊥
-      at b h = ?
+      most t n = at (nat_lt 0 t && nat_lt t n)
+        where
+          at : (b : Bool) → (if b then 1 else 0) ≤ 1
+          at true = omega arith
+          at false = omega arith
 
   -- a packet of a pipe that passes entered after the wait began
   passed : (g pipe : ℕ) (w : Wait) → s.controller.job ≡ job.Pass g pipe w → is_under_way g (s.words (name.Note pipe)) ≡ false → p ≡ pipe
       → g < f.entered
-  passed g pipe w q n same = at (cases_lt f.entered g)
+  passed g pipe w q n own = at (cases_lt f.entered g)
     where
       at : (f.entered < g) ⊎ (g ≤ f.entered) → g < f.entered
-      at (inl b) = absurd (noted s i g pipe p v f leg r e n same b)
+      at (inl b) = absurd (noted s i g pipe p v f leg r e n own b)
       at (inr b) = omega (arith, b, apart g pipe w q)
+
+  -- of the packet's version, as it is said of a release
+  abbrev HasNot : ℕ → ℕ → Type 0
+  HasNot vip version = f.packet.key.vip ≡ vip → OnNumber leg (λ n. n ≢ version)
+
+  goes_on : (x : ℕ) (j m : Job) → s.controller.job ≡ j → Goes s.config s.controller x j m → IsAnswer s j x → Unreleased j p f leg
+      → Unreleased m p f leg
+  goes_on x j m q (go.waits w) a h = first_unreleased HasNot p f.entered x w (subst (λ t. f.entered < t) (sym a) (entered_drawn s i.ticks p v f leg r e).1)
+  goes_on x j m q (go.comes u y) a h = phase_unreleased HasNot p f.entered u y
+  goes_on x j m q (go.cleared key place w) a h = cleared_unreleased HasNot p f.entered key w
+  goes_on x j m q (go.phase_stored u y) a h = vip_unreleased HasNot p f.entered u y
+  goes_on x j m q (go.pass_stays g pipe w t) a h = h
+  goes_on x j m q (go.pass_next g pipe w t b) a h =
+      next_unreleased HasNot p f.entered g pipe w (passed g pipe w q (ap (is_under_way g) (sym a) ∙ t)) h
+  goes_on x j m q (go.pass_last g pipe w t b) a h =
+      last_unreleased HasNot p f.entered g pipe s.config.layout.shape.pipes w (omega (arith, slice_get_within s.pipes p v r, i.shape.pipes.count)) over
+      (passed g pipe w q (ap (is_under_way g) (sym a) ∙ t)) h
+    where
+      over : s.config.layout.shape.pipes ≤ pipe + 1
+      over = grind (arith, nat_tests)
+  goes_on x j m q (go.drain_stays pipe count w t) a h = drain_unreleased HasNot p f.entered pipe count pipe (count + 1) w h
+  goes_on x j m q (go.drain_next pipe count w t b) a h = drain_unreleased HasNot p f.entered pipe count (pipe + 1) 0 w h
+  goes_on x j m q (go.drain_last pipe count w t b) a h =
+      waited_unreleased HasNot p f.entered s.controller.vips (book_next s.config s.controller (job.Drain pipe count w) x).entries w
+  goes_on x j m q g a h = tt
+
+-- ---- every event
+
+starts_unreleased : (k : Config) (c : ControllerView) (Q : ℕ → ℕ → Type 0) (p entered : ℕ) (t : Start) → Begins k c t → OnReleased t.job p entered Q
+starts_unreleased k c Q p e t (begin.releases vip version g) = tt
+starts_unreleased k c Q p e t g = tt
+
+begins_kept : (s : Core) → Invariant s → ReleasesPassed s → ReleasesPassed (begun_core s)
+begins_kept s i h =
+    begun_by s.config s.controller (λ c. EachPipe (λ p v. OnLeg v.stage (Unreleased c.job p)) s.pipes) h
+    (λ q t g p v r.
+    leg_then v.stage (Unreleased s.controller.job p) (Unreleased t.job p)
+    (λ f leg e k. starts_unreleased s.config s.controller (λ vip version. f.packet.key.vip ≡ vip → OnNumber leg (λ n. n ≢ version)) p f.entered t g) (h p v r))
+
+job_kept : (s : Core) (j : Job) (o : Option Op) → s.controller.job ≡ j → Invariant s → ReleasesPassed s
+    → OnOp o (λ o. IsAnswer s j (op_answer o (s.words (op_name o))))
+    → AfterJob ReleasesPassed s j o
+job_kept s j None q i h a = tt
+job_kept s j (Some o) q i h a = λ p v r.
+    let x = op_answer o (s.words (op_name o)) in
+    leg_then v.stage (Unreleased s.controller.job p) (Unreleased (job_next s.config s.controller j x) p)
+    (λ f leg e k.
+    goes_on s i p v f leg r e x j (job_next s.config s.controller j x) q (goes s.config s.controller x j) a (subst (λ m. Unreleased m p f leg) q k))
+    (h p v r)
+
+answered : (s : Core) (j : Job) → OnOp (job_op s.config s.controller j) (λ o. IsAnswer s j (op_answer o (s.words (op_name o))))
+answered s job.Free = tt
+answered s (job.Draw (draw.Grace w)) = refl
+answered s (job.Pass g pipe w) = refl
+answered s j = tt
+
+pub releases_keep : Keeps IsPacket Invariant ReleasesPassed
+releases_keep = record {
+  stages = λ s p v at q e i h.
+      stage_kept s p v at (pipe_op s.config.layout v at) q h
+      (numbers_step s i p v q (λ f n. OnReleased s.controller.job p f.entered (λ vip version. f.packet.key.vip ≡ vip → n ≢ version))
+      (λ f n g. known_released (λ vip version. f.packet.key.vip ≡ vip → n ≢ version) s.controller.job p f.entered g.kept) at e
+      (leg_then at (Unreleased s.controller.job p)
+      (λ f leg. OnNumber leg (λ n. OnReleased s.controller.job p f.entered (λ vip version. f.packet.key.vip ≡ vip → n ≢ version)))
+      (λ f leg t k. released_in s.controller.job p f leg k) (subst (λ z. OnLeg z (Unreleased s.controller.job p)) e (h p v q))));
+  begins = begins_kept;
+  jobs = λ s j q b i h. job_kept s j (job_op s.config s.controller j) q i h (answered s j);
+  enters = λ s p v packet q r u n a i h.
+      each_set s.pipes p v (record v { stage = stage.Enter packet }) q (λ n u. OnLeg u.stage (Unreleased s.controller.job n)) h tt;
+  clocks = λ s ms q i h. h;
+  refusals = λ s q i h. h;
+}
+
+pub releases_part : (s : Core) → Invariant s → ReleasesPassed s
+releases_part s i p v q =
+    leg_then v.stage (LegHolds s.config (bit_words s.words) s.controller.named s.controller.numbers s.controller.rings s.controller.job p v.pushed)
+    (Unreleased s.controller.job p) (λ f leg e h. h.release) (i.flight.legs p v q)
+
+pub releases_open : OpensWith ReleasesPassed
+unfolding opening_pipes
+releases_open k f p v e =
+    subst (λ u. OnLeg u.stage (Unreleased (opening k).controller.job p)) (sym (ranged_at fresh_pipe 0 k.layout.shape.pipes p v e)) tt

@@ -1,22 +1,21 @@
 -- The version that a packet has chosen or found is in use, and isn't one that a wait is to free.
-use Rattle.std.proofs.Common.{◌≡◌, ℕ, ◌+◌, ◌<◌, ◌≤◌, Bool, true, false, ◌&&◌, ◌≢◌, ◌⊎◌, List, [], ◌∷◌, if◌then◌else◌, ◌==◌, cond, find, not, slice_get, count_by, Some, None, Option, sym, refl, ap, ◌∙◌, subst, inl, inr, arith}
+use Rattle.std.proofs.Common.{◌≡◌, ℕ, ◌≤◌, Bool, true, false, ◌≢◌, ◌⊎◌, List, [], ◌∷◌, cond, find, not, slice_get, Some, None, Option, sym, refl, ap, ◌∙◌, subst, inl, inr, arith}
 use Rattle.std.proofs.lemmas.Bool.{cases_eq}
 use Rattle.std.proofs.lemmas.Bool.Decides.{nat_tests}
 use Rattle.std.proofs.lemmas.List.Sums.{sum_by-cons}
 use Rattle.std.proofs.lemmas.Option.{same_Some}
-use Rattle.std.specs.List.{AllByRecursion}
 use Rattle.sr_base.specs.Key.{KeyView}
 use Rattle.sr_base.specs.Layout.{LayoutView}
 use Rattle.sr_base.specs.declared.packet.Packet.{Packet}
 use Rattle.sr_base.specs.declared.place.Place.{Place}
 use Rattle.sr_base.specs.declared.vip_word.Phase.TheVariants.{Transit}
 use Rattle.sr_inv_facts.proofs.Beginning.{begun_by}
-use Rattle.sr_inv_facts.proofs.CurrentVersions.{WordCurrent, loaded_current, present_current}
+use Rattle.sr_inv_facts.proofs.CurrentVersions.{loaded_current}
 use Rattle.sr_inv_facts.proofs.FoundVersions.{FoundEntry, FoundOver, stands_vip, version_found}
 use Rattle.sr_inv_facts.proofs.Lists.{ranged_at}
-use Rattle.sr_inv_facts.proofs.Pipes.{each_set, each_then}
+use Rattle.sr_inv_facts.proofs.Pipes.{each_set}
 use Rattle.sr_inv_facts.proofs.Reading.{vip_fits}
-use Rattle.sr_inv_facts.specs.Doing.{OnRelease, OnReleased}
+use Rattle.sr_inv_facts.specs.Doing.{OnRelease}
 use Rattle.sr_inv_facts.specs.Fitted.{IsPacket}
 use Rattle.sr_inv_facts.specs.Flying.{OnFlight, OnLeg, OnNumber}
 use Rattle.sr_inv_facts.specs.InFlight.{HasWord, LegHolds, NumbersUsed, Unreleased}
@@ -29,20 +28,20 @@ use Rattle.sr_inv_flight.proofs.Choices.{OnTold, begins_number, leg_number}
 use Rattle.sr_inv_flight.proofs.LoadedWords.{vip_loaded, words_part}
 use Rattle.sr_inv_flight.proofs.Steps.{OnOp, leg_then}
 use Rattle.sr_machine.specs.Core.{Core, opening}
-use Rattle.sr_machine.specs.Deciding.{ring_count, vip_at}
-use Rattle.sr_machine.specs.Jobs.{drained, job_op, numbers_next, released}
+use Rattle.sr_machine.specs.Deciding.{ring_count}
+use Rattle.sr_machine.specs.Jobs.{drained, job_op, released}
 use Rattle.sr_machine.specs.Keeping.{AfterJob, AfterStage, Keeps}
 use Rattle.sr_machine.specs.Opening.{opening_pipes}
 use Rattle.sr_machine.specs.Ops.{op_answer, op_name}
 use Rattle.sr_machine.specs.Pipe.{fresh_pipe, pipe_after, pipe_op}
-use Rattle.sr_machine.specs.Reads.{read_vip, says}
+use Rattle.sr_machine.specs.Reads.{says}
 use Rattle.sr_machine.specs.Stages.{begun_flight, key_places, leg_after, leg_op, looking, ring_cell, stage_after}
 use Rattle.sr_machine.specs.Stores.{is_last_filter}
 use Rattle.sr_machine.specs.Waiting.{is_wait_done}
 use Rattle.sr_machine.specs.declared.flight.Flight.{Flight}
 use Rattle.sr_machine.specs.declared.job.Job.{Job}
 use Rattle.sr_machine.specs.declared.leg.Leg.{Leg}
-use Rattle.sr_machine.specs.declared.leg.Leg.TheVariants.{Look, Hit, Filter, Chosen, Judged}
+use Rattle.sr_machine.specs.declared.leg.Leg.TheVariants.{Look, Hit, Chosen, Judged}
 use Rattle.sr_machine.specs.declared.op.Op.{Op}
 use Rattle.sr_machine.specs.declared.pipe_view.PipeView.{PipeView}
 use Rattle.sr_machine.specs.declared.stage.Stage.{Stage}
@@ -57,7 +56,6 @@ use Rattle.sr_update.specs.declared.number_state.NumberState.{NumberState}
 use Rattle.sr_update.specs.declared.number_state.NumberState.TheVariants.{Free, Current, Draining}
 use Rattle.sr_machine.specs.declared.draw.Draw.TheVariants as draw
 use Rattle.sr_machine.specs.declared.job.Job.TheVariants as job
-use Rattle.sr_machine.specs.declared.leg.Load.TheVariants as load
 use Rattle.sr_machine.specs.declared.stage.Stage.TheVariants as stage
 use Rattle.sr_machine.specs.declared.store.Store.TheVariants as store
 use Rattle.sr_machine.specs.declared.wait.Wait.TheVariants as wait

@@ -1,6 +1,6 @@
 //! What every event keeps.
 
-ghost use Rattle.sr_inv_facts.specs.InFlight.{CellsFree, ChoicesHold, FiltersSet, NumbersUsed, WordsLoaded};
+ghost use Rattle.sr_inv_facts.specs.InFlight.{CellsFree, ChoicesHold, FiltersSet, NumbersUsed, ReleasesPassed, WordsLoaded};
 ghost use Rattle.sr_inv_facts.specs.Laws.{BegunKeeps, EventsKeep, OpensWith};
 
 /// A law: an opener that nothing has matched chooses by the word that it loaded, never in the phase that holds openers, and is held by a phase that it
@@ -40,4 +40,12 @@ pub fn used_numbers_are_kept()
     ensures opening { OpensWith NumbersUsed }
     ensures begun { BegunKeeps NumbersUsed }
     ensures event { EventsKeep NumbersUsed }
+{}
+
+/// A law: no packet of a pipe that the wait for a release has passed has found or chosen the version that is released; so it is at the opening, and so
+/// it stays with every event.
+pub fn releases_are_kept()
+    ensures opening { OpensWith ReleasesPassed }
+    ensures begun { BegunKeeps ReleasesPassed }
+    ensures event { EventsKeep ReleasesPassed }
 {}
