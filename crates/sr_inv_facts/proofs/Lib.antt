@@ -3,9 +3,11 @@ pub mod Books
 pub mod CurrentVersions
 pub mod Entries
 pub mod Filters
+pub mod FittedPools
 pub mod FoundVersions
 pub mod Keeping
 pub mod Lists
+pub mod NamedPools
 pub mod OpeningLines
 pub mod Pipes
 pub mod Plain
