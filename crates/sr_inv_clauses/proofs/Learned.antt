@@ -55,23 +55,24 @@ before_learned u Holding h = refl
 before_learned u Transit h = absurd (h refl)
 
 -- the phase that is waited with
-record IsWaited (vips : List VipWord) (vip : ℕ) (w : VipWord) : Type 0 where
-  update : PoolUpdate
-  phase : Phase
-  of : vip ≡ update.vip
-  was : w ≡ word_before update phase
-  is : vip_at vips update.vip ≡ phase_word update phase
+pub record IsWaited (o : Option PoolUpdate) (vips : List VipWord) (vip : ℕ) (w : VipWord) : Type 0 where
+  pub update : PoolUpdate
+  pub phase : Phase
+  pub under_way : o ≡ Some update
+  pub of : vip ≡ update.vip
+  pub was : w ≡ word_before update phase
+  pub is : vip_at vips update.vip ≡ phase_word update phase
 
-earlier_waited : (k : Config) (update : Option PoolUpdate) (vips : List VipWord) (j : Job) (p entered vip : ℕ) (w : VipWord) → JobAt k update vips j
-    → HasEarlier j p entered vip w → IsWaited vips vip w
+pub earlier_waited : (k : Config) (update : Option PoolUpdate) (vips : List VipWord) (j : Job) (p entered vip : ℕ) (w : VipWord) → JobAt k update vips j
+    → HasEarlier j p entered vip w → IsWaited update vips vip w
 earlier_waited k update vips (job.Draw (draw.Grace (wait.Comes u q))) p entered vip w a h =
-    record { update = u; phase = q; of = h.0; was = h.1; is = a.1 }
+    record { update = u; phase = q; under_way = a.0; of = h.0; was = h.1; is = a.1 }
 earlier_waited k update vips (job.Draw (draw.Comes u Steady)) p entered vip w a h =
-    record { update = u; phase = Steady; of = h.0; was = h.1; is = a.1 }
+    record { update = u; phase = Steady; under_way = a.0; of = h.0; was = h.1; is = a.1 }
 earlier_waited k update vips (job.Draw (draw.Comes u Transit)) p entered vip w a h =
-    record { update = u; phase = Transit; of = h.0; was = h.1; is = a.1 }
+    record { update = u; phase = Transit; under_way = a.0; of = h.0; was = h.1; is = a.1 }
 earlier_waited k update vips (job.Pass grace pipe (wait.Comes u q)) p entered vip w a h =
-    record { update = u; phase = q; of = h.0.0; was = h.0.1; is = a.1 }
+    record { update = u; phase = q; under_way = a.0; of = h.0.0; was = h.0.1; is = a.1 }
 earlier_waited k update vips j p entered vip w a h = absurd h
 
 module _ (s : Core) (i : Invariant s) where
@@ -84,7 +85,7 @@ module _ (s : Core) (i : Invariant s) where
       let other : (word_before w.update w.phase).phase ≢ Holding = λ e. c.1 (ap (λ z. z.phase) w.was ∙ e) in
       c.0 ∙ (ap word_learned w.was ∙ (before_learned w.update w.phase other ∙ (ap word_learned (sym w.is) ∙ ap (learned s.controller.vips) (sym w.of))))
 
-  flight_at : (p : ℕ) (v : PipeView) → slice_get s.pipes p ≡ Some v → (f : Flight) (leg : Leg) → v.stage ≡ Fly f leg
+  pub flight_at : (p : ℕ) (v : PipeView) → slice_get s.pipes p ≡ Some v → (f : Flight) (leg : Leg) → v.stage ≡ Fly f leg
       → FlightHolds s.controller.vips s.controller.job (printed s) p f
   flight_at p v q f leg e = subst (λ a. OnFlight a (FlightHolds s.controller.vips s.controller.job (printed s) p)) e (i.flight.flights p v q)
 

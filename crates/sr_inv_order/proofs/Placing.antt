@@ -29,7 +29,7 @@ module _ (s : Core) (i : Invariant s) where
   holds_at j e = subst (JobHolds s.config (seen s.controller) (printed s)) e i.jobs.holds.stands
 
   -- who has a place by the lines
-  taken_at : (j : Job) → s.controller.job ≡ j → (place : Place)
+  pub taken_at : (j : Job) → s.controller.job ≡ j → (place : Place)
       → taken (printed s) place ≡ option_or (job_taking j place) (book_taking s.controller.book.entries place)
   taken_at j e place =
       subst (λ m. taken (printed s) place ≡ option_or (job_taking m place) (book_taking s.controller.book.entries place)) e (i.jobs.holds.places place)
