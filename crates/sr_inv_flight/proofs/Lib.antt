@@ -2,6 +2,7 @@ pub mod Cells
 pub mod Choices
 pub mod Choosing
 pub mod FilterPlaces
+pub mod LoadedServers
 pub mod LoadedWords
 pub mod ReleasesPass
 pub mod Steps

@@ -222,7 +222,7 @@ stage_kept s p v at (Some o) q h g =
     each_set s.pipes p v (pipe_after s.config.layout v at (op_answer o (s.words (op_name o)))) q
     (λ n u. OnLeg u.stage (λ f leg. OnNumber leg (λ n. is_used s.controller.numbers f.packet.key.vip n ≡ true))) h g
 
-number_then : (leg : Leg) (P Q : ℕ → Type 0) → ((n : ℕ) → P n → Q n) → OnNumber leg P → OnNumber leg Q
+pub number_then : (leg : Leg) (P Q : ℕ → Type 0) → ((n : ℕ) → P n → Q n) → OnNumber leg P → OnNumber leg Q
 number_then (Hit place n) P Q t h = t n h
 number_then (Chosen n next) P Q t h = t n h
 number_then (Judged (verdict.To server n pool) next) P Q t h = t n h
@@ -243,7 +243,7 @@ other_used : (numbers : NumberRows) (vip n v m : ℕ) (state : NumberState) → 
     → is_used (with_state v m state numbers) vip n ≡ true
 other_used numbers vip n v m state apart u = ap is_used_by (state_other numbers vip n v m state apart) ∙ u
 
-used_some : (o : Option NumberState) → is_used_by o ≡ true → (is : NumberState) × (o ≡ Some is)
+pub used_some : (o : Option NumberState) → is_used_by o ≡ true → (is : NumberState) × (o ≡ Some is)
 used_some None e = cc
 used_some (Some is) e = (is, refl)
 

@@ -1,6 +1,6 @@
 //! What every event keeps.
 
-ghost use Rattle.sr_inv_facts.specs.InFlight.{CellsFree, ChoicesHold, FiltersSet, NumbersUsed, ReleasesPassed, WordsLoaded};
+ghost use Rattle.sr_inv_facts.specs.InFlight.{CellsFree, ChoicesHold, FiltersSet, NumbersUsed, ReleasesPassed, ServersTold, WordsLoaded};
 ghost use Rattle.sr_inv_facts.specs.Laws.{BegunKeeps, EventsKeep, OpensWith};
 
 /// A law: an opener that nothing has matched chooses by the word that it loaded, never in the phase that holds openers, and is held by a phase that it
@@ -48,4 +48,12 @@ pub fn releases_are_kept()
     ensures opening { OpensWith ReleasesPassed }
     ensures begun { BegunKeeps ReleasesPassed }
     ensures event { EventsKeep ReleasesPassed }
+{}
+
+/// A law: what a packet has loaded of its version, up to its server, is what the pool says that the version names; so it is at the opening, and so it
+/// stays with every event.
+pub fn servers_are_kept()
+    ensures opening { OpensWith ServersTold }
+    ensures begun { BegunKeeps ServersTold }
+    ensures event { EventsKeep ServersTold }
 {}
