@@ -1,6 +1,8 @@
 pub mod DrainsKept
 pub mod KeyPlaces
 pub mod LearnedKept
+pub mod LooksKept
+pub mod Members
 pub mod Reports
 pub mod Saying
 pub mod Stepping

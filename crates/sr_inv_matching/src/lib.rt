@@ -3,4 +3,7 @@
 
 mod laws;
 
-pub use laws::{drains_tell_apart, learned_are_unspoken, rings_end, unmatched_openers_look};
+pub use laws::{
+    drains_tell_apart, learned_are_unspoken, placed_keys_are_found, rings_end,
+    unmatched_openers_look,
+};
