@@ -1,8 +1,11 @@
+pub mod ClearKept
 pub mod DrainsKept
 pub mod KeyPlaces
 pub mod LearnedKept
 pub mod LooksKept
+pub mod MatchingKept
 pub mod Members
+pub mod OwnKept
 pub mod Reports
 pub mod Saying
 pub mod Stepping

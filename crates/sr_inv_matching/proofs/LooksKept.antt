@@ -1,8 +1,8 @@
 -- A packet that looks at places is still to look at its key's, but perhaps for one where the key came to be live behind it.
-use Rattle.std.proofs.Common.{◌≡◌, ℕ, ◌+◌, ◌<◌, ◌≤◌, Bool, true, false, ◌≢◌, ◌⊎◌, List, [], ◌∷◌, if◌then◌else◌, ◌==◌, slice_get, slice_set, Some, None, Option, sym, refl, ap, ◌∙◌, subst, inl, inr, arith}
+use Rattle.std.proofs.Common.{◌≡◌, ℕ, ◌+◌, ◌<◌, ◌≤◌, Bool, true, false, ◌≢◌, ◌⊎◌, List, [], ◌∷◌, if◌then◌else◌, ◌==◌, slice_get, Some, None, Option, sym, refl, ap, ◌∙◌, subst, inl, inr, arith}
 use Rattle.std.specs.Prelude.{IfSome}
 use Rattle.std.proofs.lemmas.Bool.Decides.{nat_tests}
-use Rattle.std.proofs.lemmas.Option.{slice_get_within, same_Some}
+use Rattle.std.proofs.lemmas.Option.{slice_get_within}
 use Rattle.sr_base.specs.Key.{KeyView}
 use Rattle.sr_base.specs.Layout.{LayoutView}
 use Rattle.sr_base.specs.declared.place.Place.{Place}
@@ -40,11 +40,11 @@ use Rattle.sr_machine.specs.Opening.{opening_pipes}
 use Rattle.sr_machine.specs.Ops.{op_answer, op_name}
 use Rattle.sr_machine.specs.Pipe.{fresh_pipe, pipe_after, pipe_op}
 use Rattle.sr_machine.specs.Reads.{has_bit, read_flag, says}
-use Rattle.sr_machine.specs.Stages.{begun_flight, filtered, filtering, held_or, is_opener, key_bits, key_places, last_after, leg_after, loaded, looked, looking, missed_in, ring_cell, stage_after}
+use Rattle.sr_machine.specs.Stages.{begun_flight, filtered, filtering, held_or, is_opener, key_bits, key_places, last_after, loaded, looked, looking, missed_in, stage_after}
 use Rattle.sr_machine.specs.Stores.{judged_draw}
 use Rattle.sr_machine.specs.Taking.{ended_by}
 use Rattle.sr_machine.specs.Waiting.{all_passed}
-use Rattle.sr_machine.specs.Deciding.{dead_reply, ring_count}
+use Rattle.sr_machine.specs.Deciding.{dead_reply}
 use Rattle.sr_machine.specs.declared.flight.Flight.{Flight}
 use Rattle.sr_machine.specs.declared.job.Job.{Job}
 use Rattle.sr_machine.specs.declared.leg.Last.{Last}
@@ -60,7 +60,6 @@ use Rattle.sr_machine.specs.declared.stage.Stage.TheVariants.{Idle, Enter, Note,
 use Rattle.sr_machine.specs.declared.wait.Wait.{Wait}
 use Rattle.sr_shadow.specs.Book.{entry_for}
 use Rattle.sr_shadow.specs.Entry.{is_of, left_other, swept}
-use Rattle.sr_shadow.specs.declared.book.Book.{Book}
 use Rattle.sr_shadow.specs.declared.entry.Entry.{Entry}
 use Rattle.sr_machine.specs.Goes as go
 use Rattle.sr_law.specs.declared.verdict.Verdict.TheVariants as verdict

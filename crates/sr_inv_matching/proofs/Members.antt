@@ -5,12 +5,12 @@ use Rattle.sr_base.proofs.Sameness.{same_key-self, same_key-true}
 use Rattle.sr_base.specs.Key.{KeyView, same_key}
 use Rattle.sr_base.specs.Layout.{LayoutView}
 use Rattle.sr_base.specs.declared.place.Place.{Place}
-use Rattle.sr_inv_facts.proofs.Books.{field_kept}
+use Rattle.std.specs.List.{list_any}
+use Rattle.sr_inv_facts.proofs.Books.{field_kept, found_key}
 use Rattle.sr_inv_facts.proofs.Taking.{TakesBook, closed_book, learned_book, same_book}
 use Rattle.sr_inv_facts.specs.Readings.{In}
-use Rattle.sr_shadow.proofs.Splits.{registered_none}
 use Rattle.sr_shadow.specs.Book.{DistinctKeys, entries_with, entry_for, is_registered, with_changed, without_key}
-use Rattle.sr_shadow.specs.Entry.{closed, fresh, is_of, left_other, settled, swept}
+use Rattle.sr_shadow.specs.Entry.{closed, fresh, is_of, settled}
 use Rattle.sr_shadow.specs.declared.book.Book.{Book}
 use Rattle.sr_shadow.specs.declared.entry.Entry.{Entry}
 use Rattle.sr_update.specs.Numbers.{NumberRows}
@@ -134,3 +134,32 @@ stays_judged key at version taken es f i place q = by (in_mapped (λ e. if is_of
 
     by : (e : Entry) × In e (entries_with key version taken es) × (f ≡ (if is_of key e then settled at e else e)) → Stood es f.key place ⊎ (f.key ≡ key)
     by (e, m, r) = turn e (is_of key e) refl m r
+
+-- ---- what some member passes
+
+pub any_in : (test : Entry → Bool) (es : List Entry) (e : Entry) → In e es → test e ≡ true → list_any test es ≡ true
+any_in test [] e i t = absurd i
+any_in test (x ∷ es) e (inl q) t = ap (λ y. test y || list_any test es) (sym q) ∙ ap (λ b. b || list_any test es) t
+any_in test (x ∷ es) e (inr i) t = ap (λ b. test x || b) (any_in test es e i t) ∙ by (test x)
+  where
+    by : (b : Bool) → (b || true) ≡ true
+    by true = refl
+    by false = refl
+
+pub in_front : (xs ys : List Entry) (e : Entry) → In e xs → In e (xs ++ ys)
+in_front [] ys e i = absurd i
+in_front (x ∷ xs) ys e (inl q) = inl q
+in_front (x ∷ xs) ys e (inr i) = inr (in_front xs ys e i)
+
+-- a key that has an entry is registered
+pub registered_found : (key : KeyView) (es : List Entry) (e : Entry) → entry_for key es ≡ Some e → is_registered key es ≡ true
+registered_found key es e q =
+    ap (λ k. is_registered k es) (found_key key es e q) ∙ in_registered es e (in_found (is_of key) es e q)
+
+-- a member is of no key that isn't registered
+pub member_other : (key : KeyView) (es : List Entry) (e : Entry) → is_registered key es ≡ false → In e es → is_of key e ≡ false
+member_other key es e n i = at (is_of key e) refl
+  where
+    at : (b : Bool) → is_of key e ≡ b → b ≡ false
+    at false t = refl
+    at true t = absurd (true≢false (sym (any_in (is_of key) es e i t) ∙ n))
