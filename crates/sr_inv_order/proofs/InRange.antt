@@ -15,7 +15,7 @@ use Rattle.sr_inv_facts.specs.InShape.{VerdictFits, downing, servers_of}
 use Rattle.sr_inv_facts.specs.Invariant.{Invariant}
 use Rattle.sr_inv_order.proofs.Grouped.{pools_count}
 use Rattle.sr_inv_order.proofs.Rising.{and_true}
-use Rattle.sr_inv_update.proofs.Changes.{pool_fits}
+use Rattle.sr_inv_facts.proofs.FittedPools.{pool_fits}
 use Rattle.sr_law.specs.Pools.{picked, pool_of}
 use Rattle.sr_law.specs.Ranges.{if_below, in_range, names_own_place, pipe_of, server_named, vip_of}
 use Rattle.sr_law.specs.declared.line.Line.{Line}
