@@ -1,0 +1,6 @@
+pub mod LearnedKept
+pub mod OpeningSteps
+pub mod PushedKept
+pub mod Registering
+pub mod RingSteps
+pub mod Speaking

@@ -1,0 +1,6 @@
+//! Every event keeps when a connection is open: the family `InOpenings` of the invariant.
+#![tactic(auto)]
+
+mod laws;
+
+pub use laws::{pushed_are_kept};
