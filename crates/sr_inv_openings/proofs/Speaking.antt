@@ -6,44 +6,47 @@ use Rattle.sr_base.specs.declared.kind.Kind.{Kind}
 use Rattle.sr_base.specs.declared.kind.Kind.TheVariants.{Opener}
 use Rattle.sr_base.specs.declared.place.Place.{Place}
 use Rattle.sr_base.specs.declared.place.Place.TheVariants.{Row, Slot}
-use Rattle.sr_base.specs.declared.ring_word.RingKind.TheVariants.{Learn}
+use Rattle.sr_base.specs.declared.ring_word.RingKind.{RingKind}
+use Rattle.sr_base.specs.declared.ring_word.RingKind.TheVariants.{Close, Learn, Punt}
 use Rattle.sr_base.specs.declared.ring_word.RingWord.{RingWord}
 use Rattle.sr_base.specs.declared.vip_word.Phase.{Phase}
 use Rattle.sr_base.specs.declared.vip_word.Phase.TheVariants.{Holding, Recording, Steady, Transit}
 use Rattle.sr_base.specs.declared.vip_word.VipWord.{VipWord}
 use Rattle.sr_hash.specs.Uses.{is_place_of}
 use Rattle.sr_inv_facts.proofs.Lists.{all_in, of_some}
-use Rattle.sr_inv_facts.proofs.Ranges.{word_fits}
+use Rattle.sr_inv_facts.proofs.Ranges.{PutFits, put_fits, word_fits}
 use Rattle.sr_inv_facts.proofs.Reading.{report_fits}
 use Rattle.sr_inv_facts.specs.Doing.{MissedReserved}
 use Rattle.sr_inv_facts.specs.Flying.{IfOpener, IsLeaving, OnLeg, OnUnmatched, SomeLeaving}
 use Rattle.sr_inv_facts.specs.InFilter.{IsOfWord, ReportMarked}
 use Rattle.sr_inv_facts.specs.InFlight.{LegHolds}
-use Rattle.sr_inv_facts.specs.InMatching.{Unmatched}
+use Rattle.sr_inv_facts.specs.InJobs.{JobHolds, PutHolds, seen}
+use Rattle.sr_inv_facts.specs.InMatching.{Judged, Unmatched}
 use Rattle.sr_inv_facts.specs.InShape.{EntryFits, WordFits}
 use Rattle.sr_inv_facts.specs.InUpdate.{IsNew, IsWordOf, JobAt, UpdateHolds, is_ungiven, standing}
 use Rattle.sr_inv_facts.specs.InWords.{job_word}
 use Rattle.sr_inv_facts.specs.Invariant.{Invariant}
 use Rattle.sr_inv_facts.specs.OnTrack.{GoesBy, IsKnown, IsOnDuty}
-use Rattle.sr_inv_facts.specs.Readings.{IfLearn, In, SomeLearn, Speaks, SpeaksLive, bit_words, entry_words, ring_words}
-use Rattle.sr_machine.proofs.Written.{live_says}
+use Rattle.sr_inv_facts.specs.Readings.{EachLearn, IfLearn, In, SomeLearn, Speaks, SpeaksLive, bit_words, entry_words, ring_words}
+use Rattle.sr_machine.proofs.Written.{live_says, reserved_says}
 use Rattle.sr_machine.specs.Config.{Config}
 use Rattle.sr_machine.specs.Core.{Core, printed}
 use Rattle.sr_machine.specs.Deciding.{named_at, vip_at}
-use Rattle.sr_machine.specs.Reads.{live_word, read_report, says, stands_for, steady}
+use Rattle.sr_machine.specs.Reads.{live_word, read_report, reserved_word, says, stands_for, steady}
 use Rattle.sr_machine.specs.Stores.{phase_word}
 use Rattle.sr_machine.specs.declared.flight.Flight.{Flight}
 use Rattle.sr_machine.specs.declared.job.Job.{Job}
 use Rattle.sr_machine.specs.declared.leg.Last.{Last}
 use Rattle.sr_machine.specs.declared.pipe_view.PipeView.{PipeView}
 use Rattle.sr_machine.specs.declared.pool_update.PoolUpdate.{PoolUpdate}
+use Rattle.sr_machine.specs.declared.put.Put.{Put}
 use Rattle.sr_machine.specs.declared.stage.Stage.{Stage}
-use Rattle.sr_shadow.specs.Book.{entry_for, holder_entry}
+use Rattle.sr_shadow.specs.Book.{entry_for, holder_entry, holder_of}
 use Rattle.sr_shadow.specs.Entry.{holds, is_at, is_of, times_held}
 use Rattle.sr_shadow.specs.declared.entry.Entry.{Entry}
 use Rattle.sr_update.specs.Numbers.{state_of}
 use Rattle.sr_update.specs.declared.number_state.NumberState.TheVariants.{Current}
-use Rattle.std.proofs.Common.{Bool, List, None, Option, Some, [], ap, arith, cond, false, if◌then◌else◌, inl, inr, option_map, refl, slice_get, subst, sum_by, sym, true, unwrap_or, ℕ, ◌+◌, ◌<◌, ◌==◌, ◌||◌, ◌∙◌, ◌∷◌, ◌≡◌, ◌≤◌, ◌⊎◌}
+use Rattle.std.proofs.Common.{Bool, List, None, Option, Some, [], ap, arith, cond, false, if◌then◌else◌, inl, inr, option_map, refl, slice_get, subst, sum_by, sym, true, true≢false, unwrap_or, ℕ, ◌+◌, ◌<◌, ◌==◌, ◌||◌, ◌∙◌, ◌∷◌, ◌≡◌, ◌≢◌, ◌≤◌, ◌⊎◌}
 use Rattle.std.proofs.lemmas.Bool.Decides.{nat_tests}
 use Rattle.std.proofs.lemmas.List.Sums.{sum_by-cons}
 use Rattle.std.proofs.lemmas.Option.{same_Some}
@@ -95,6 +98,14 @@ holder_is place (x ∷ es) e (inr i) h o =
     at true q more =
         absurd (omega (arith, sum_by-cons (times_held place) x es, held_times place x q, in_times place es e i h))
     at false q more = more
+
+-- nobody's key is no one
+nobody : (place : Place) (es : List Entry) → holder_of place es ≡ None → holder_entry place es ≡ None
+nobody place es = at (holder_entry place es)
+  where
+    at : (o : Option Entry) → option_map (λ e. e.key) o ≡ None → o ≡ None
+    at None h = refl
+    at (Some e) h = cc
 
 -- a place stands for the key that stands there
 pub stands_self : (l : LayoutView) (place : Place) (key : KeyView) → stands_for l place key key ≡ true
@@ -297,3 +308,41 @@ module _ (s : Core) (i : Invariant s) where
       below : IsOfWord (vip_at s.controller.vips w.key.vip) w.version → w.version < l.shape.versions
       below (inl e) = subst (λ n. n < l.shape.versions) (sym e) word.cur
       below (inr e) = subst (λ n. n < l.shape.versions) (sym e.1) word.next
+
+  -- ---- a put that is to be made live or given up
+
+  -- its place speaks to its key
+  pub judged_speaks : (p : Put) → s.controller.job ≡ job.Store (store.Judge p) → Speaks (says l p.place p.key (s.words (name.Entry p.place)))
+  judged_speaks p e =
+      let put : PutHolds l.shape book s.controller.held p = (subst (JobHolds s.config (seen s.controller) (printed s)) e i.jobs.holds.stands).0 in
+      let fits : PutFits l p = put_fits s.config i.shape.config.layout s.controller i.shape.book i.shape.controller p put in
+      let word : s.words (name.Entry p.place) ≡ reserved_word l p.place p.key =
+      i.words.others.table p.place
+      ∙ (ap (λ o. unwrap_or (option_map (λ e. live_word l p.place e.key e.version) o) (job_word l p.place s.controller.job)) (nobody p.place book put.free)
+      ∙ (ap (job_word l p.place) e ∙ ap (λ b. if b then reserved_word l p.place p.key else 0) (same_place-self p.place))) in
+      let told : says l p.place p.key (s.words (name.Entry p.place)) ≡ said.Reserved =
+      ap (says l p.place p.key) word
+      ∙ (reserved_says l i.shape.config.layout p.place p.key p.key fits.key.is_key ∙ ap (λ b. if b then said.Reserved else said.Nothing) (stands_self l p.place p.key)) in
+      subst Speaks (sym told) tt
+
+  pub judged_own : (p : Put) → s.controller.job ≡ job.Store (store.Judge p) → is_place_of l.shape p.key p.place ≡ true
+  judged_own p e = (subst (JobHolds s.config (seen s.controller) (printed s)) e i.jobs.holds.stands).0.own
+
+  -- no opener of its key was sent and isn't out, or is yet to be told
+  pub judged_unsent : (q : Put) → s.controller.job ≡ job.Store (store.Judge q) → (p : ℕ) (v : PipeView) (f : Flight) (server n pool : ℕ) (at : Last)
+      → slice_get s.pipes p ≡ Some v → v.stage ≡ stage.Fly f (leg.Judged (verdict.To server n pool) at) → f.packet.kind ≡ Opener
+      → f.packet.key ≡ q.key → ⊥
+  judged_unsent q e p v f server n pool at g d kind own =
+      subst (λ j. MissedReserved j p f.entered q.place) e
+      (sent_missed p v f server n pool at g d kind q.place (subst (λ z. is_place_of l.shape z q.place ≡ true) (sym own) (judged_own q e))
+      (subst (λ z. Speaks (says l q.place z (s.words (name.Entry q.place)))) (sym own) (judged_speaks q e)))
+
+  -- and nothing is learned of it
+  pub judged_unlearned : (q : Put) → s.controller.job ≡ job.Store (store.Judge q) → EachLearn l (ring_words s.words) (λ other version. other ≢ q.key)
+  judged_unlearned q e n c w read =
+      by w.kind (subst (Judged l s.controller.rings (ring_words s.words)) e i.matching.matching.judged n c w read)
+    where
+      by : (kind : RingKind) → IfLearn kind (stands_for l q.place q.key w.key ≡ false) → IfLearn kind (w.key ≢ q.key)
+      by Learn h = λ same. true≢false (sym (stands_self l q.place q.key) ∙ (ap (stands_for l q.place q.key) (sym same) ∙ h))
+      by Punt h = tt
+      by Close h = tt
