@@ -29,13 +29,13 @@ use Rattle.sr_inv_openings.proofs.LearnedKept.{learn_then}
 use Rattle.sr_inv_openings.proofs.Registering.{registered_is, take_registered}
 use Rattle.sr_inv_openings.proofs.RingSteps.{AtOp, pushed_from, pushed_ring, tells_learn}
 use Rattle.sr_inv_openings.proofs.Speaking.{is_opener_so, judged_unlearned, judged_unsent}
-use Rattle.sr_inv_openings.specs.Parts.{DeadAreSilent}
+use Rattle.sr_inv_openings.proofs.Parts.{DeadAreSilent}
 use Rattle.sr_law.specs.Pools.{picked, server_of}
 use Rattle.sr_law.specs.declared.verdict.HeldBy.{HeldBy}
 use Rattle.sr_law.specs.declared.verdict.Verdict.{Verdict}
 use Rattle.sr_machine.proofs.Following.{goes}
 use Rattle.sr_machine.specs.Begins.{Begins}
-use Rattle.sr_machine.specs.Core.{Core, enters, printed}
+use Rattle.sr_machine.specs.Core.{Core, printed}
 use Rattle.sr_machine.specs.Deciding.{dead_reply, is_down, is_withdrawn, learned, learned_in, reply_if, ring_count, server_for, version_for, vip_at}
 use Rattle.sr_machine.specs.Draws.{cleared_job, phase_job}
 use Rattle.sr_machine.specs.Goes.{Goes}

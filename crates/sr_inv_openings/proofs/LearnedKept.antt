@@ -23,12 +23,12 @@ use Rattle.sr_inv_facts.specs.Readings.{EachLearn, IfLearn, SomeLearn, ring_word
 use Rattle.sr_inv_openings.proofs.OpeningSteps.{answer_opens, leaving_opens, opening_known, opens_quiet, or_none, packet_opens}
 use Rattle.sr_inv_openings.proofs.RingSteps.{AtOp, TellsLearn, left_was, pushed_from, pushed_ring, tells_learn}
 use Rattle.sr_inv_openings.proofs.Speaking.{found_in, leaving_known, placed_unlearned, sent_known}
-use Rattle.sr_inv_openings.specs.Parts.{LearnedAre}
+use Rattle.sr_inv_openings.proofs.Parts.{LearnedAre}
 use Rattle.sr_law.specs.Opening.{opened_by, opening}
 use Rattle.sr_law.specs.declared.line.Line.{Line}
 use Rattle.sr_law.specs.declared.opening.Opening.{Opening}
 use Rattle.sr_law.specs.declared.verdict.Verdict.{Verdict}
-use Rattle.sr_machine.specs.Core.{Core, enters, printed}
+use Rattle.sr_machine.specs.Core.{Core, printed}
 use Rattle.sr_machine.specs.Deciding.{ring_count}
 use Rattle.sr_machine.specs.Draws.{answer_line}
 use Rattle.sr_machine.specs.Jobs.{job_op}

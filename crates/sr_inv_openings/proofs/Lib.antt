@@ -1,6 +1,10 @@
 pub mod DeadKept
+pub mod EntryOpenings
+pub mod EntryTurns
 pub mod LearnedKept
 pub mod OpeningSteps
+pub mod OpeningsKept
+pub mod Parts
 pub mod PushedKept
 pub mod Registering
 pub mod ReportedKept

@@ -25,10 +25,10 @@ use Rattle.sr_inv_facts.specs.Readings.{EachPipe, In, SomeLearn, Speaks, ring_wo
 use Rattle.sr_inv_openings.proofs.Registering.{judged_registered, learn_registers, registered_changed, registered_some, take_registered, without_found}
 use Rattle.sr_inv_openings.proofs.RingSteps.{AtOp, learn_left, learn_pushed, pushed_here, pushed_ring, taken_ring}
 use Rattle.sr_inv_openings.proofs.Speaking.{found_in, learn_current, placed_own, placed_says, sent_known, sent_missed}
-use Rattle.sr_inv_openings.specs.Parts.{PushedAre}
+use Rattle.sr_inv_openings.proofs.Parts.{PushedAre}
 use Rattle.sr_law.specs.declared.verdict.HeldBy.{HeldBy}
 use Rattle.sr_law.specs.declared.verdict.Verdict.{Verdict}
-use Rattle.sr_machine.specs.Core.{Core, enters, opening, printed}
+use Rattle.sr_machine.specs.Core.{Core, opening, printed}
 use Rattle.sr_machine.specs.Deciding.{is_withdrawn, ring_count, version_for}
 use Rattle.sr_machine.specs.Jobs.{book_next, job_op}
 use Rattle.sr_machine.specs.Keeping.{AfterJob, AfterStage, Keeps}

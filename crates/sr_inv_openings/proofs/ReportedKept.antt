@@ -18,7 +18,7 @@ use Rattle.sr_inv_openings.proofs.OpeningSteps.{PacketOpens, answer_opens, given
 use Rattle.sr_inv_openings.proofs.Registering.{judged_registered, learn_registers, registered_changed, registered_is, registered_some, take_registered, without_registered}
 use Rattle.sr_inv_openings.proofs.RingSteps.{AtOp, learn_left, learn_pushed, taken_ring}
 use Rattle.sr_inv_openings.proofs.Speaking.{learn_current, sent_pool}
-use Rattle.sr_inv_openings.specs.Parts.{ReportedAre}
+use Rattle.sr_inv_openings.proofs.Parts.{ReportedAre}
 use Rattle.sr_law.specs.Opening.{opened_by, opening, retires}
 use Rattle.sr_law.specs.declared.line.Line.{Line}
 use Rattle.sr_law.specs.declared.opening.Opening.{Opening}
@@ -100,9 +100,10 @@ module _ (s : Core) (i : Invariant s) (p : ℕ) (v : PipeView) (q : slice_get s.
       new : (O : Option Opening) → opened_by (packet_line v.number f u x) key ≡ O → IsReported l (ring_words s.words) s.controller.named key O
       new None g = tt
       new (Some o) g =
-          let a = packet_opens v.number f u x key o g in
-          (by a (sent f u a.server o.version o.pool e a.sent a.opener),
-          sym (ap (λ z. named_at s.controller.named z.vip o.version) (sym a.own) ∙ sent_pool s i p v f a.server o.version o.pool last.Out q (e ∙ ap (λ z. stage.Fly f (leg.Judged z last.Out)) a.sent)))
+          let a = packet_opens v.number f u x key o g in (
+            by a (sent f u a.server o.version o.pool e a.sent a.opener),
+            sym (ap (λ z. named_at s.controller.named z.vip o.version) (sym a.own) ∙ sent_pool s i p v f a.server o.version o.pool last.Out q (e ∙ ap (λ z. stage.Fly f (leg.Judged z last.Out)) a.sent)),
+          )
         where
           by : PacketOpens f u key o → SomeLearn l (ring_words s.words) f.packet.key o.version ⊎ IsRegisteredWith es f.packet.key o.version
               → SomeLearn l (ring_words s.words) key o.version

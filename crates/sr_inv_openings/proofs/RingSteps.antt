@@ -6,7 +6,6 @@ use Rattle.sr_base.specs.declared.kind.Kind.{Kind}
 use Rattle.sr_base.specs.declared.kind.Kind.TheVariants.{Carry, Ending, Opener}
 use Rattle.sr_base.specs.declared.ring_word.RingKind.TheVariants.{Learn}
 use Rattle.sr_base.specs.declared.ring_word.RingWord.{RingWord}
-use Rattle.sr_inv_facts.proofs.Printing.{tells}
 use Rattle.sr_inv_facts.proofs.Taking.{none_reported}
 use Rattle.sr_inv_facts.specs.Flying.{OnLeg}
 use Rattle.sr_inv_facts.specs.InFlight.{LegHolds}

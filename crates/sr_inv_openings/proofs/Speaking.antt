@@ -287,9 +287,12 @@ module _ (s : Core) (i : Invariant s) where
   pub leaving_missed : (key : KeyView) (n : ℕ) → SomeLeaving s.pipes key n → (place : Place) → is_place_of l.shape key place ≡ true
       → Speaks (says l place key (s.words (name.Entry place))) → (p : ℕ) × (entered : ℕ) × MissedReserved s.controller.job p entered place
   leaving_missed key n (p, v, q, h) place own speaks =
-      let a = leaves v.stage key n h in
-      (p, a.flight.entered, sent_missed p v a.flight a.server n a.pool last.Out q a.is a.opener place (subst (λ z. is_place_of l.shape z place ≡ true) (sym a.own) own)
-      (subst (λ z. Speaks (says l place z (s.words (name.Entry place)))) (sym a.own) speaks))
+      let a = leaves v.stage key n h in (
+        p,
+        a.flight.entered,
+        sent_missed p v a.flight a.server n a.pool last.Out q a.is a.opener place (subst (λ z. is_place_of l.shape z place ≡ true) (sym a.own) own)
+            (subst (λ z. Speaks (says l place z (s.words (name.Entry place)))) (sym a.own) speaks),
+      )
 
   -- ---- versions that are learned
 

@@ -3,4 +3,4 @@
 
 mod laws;
 
-pub use laws::{pushed_are_kept};
+pub use laws::openings_are_kept;

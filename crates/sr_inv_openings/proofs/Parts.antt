@@ -8,7 +8,7 @@ use Rattle.sr_law.specs.Opening.{opening}
 use Rattle.sr_machine.specs.Core.{Core, printed}
 use Rattle.sr_shadow.specs.Book.{is_registered}
 use Rattle.std.specs.List.{AllByRecursion}
-use Rattle.std.specs.Prelude.{◌≡◌, false}
+use Rattle.std.proofs.Common.{◌≡◌, false}
 
 -- an opener that was sent and isn't out has its report in a ring, or its key is registered
 abbrev pub PushedAre : Core → Type 0
