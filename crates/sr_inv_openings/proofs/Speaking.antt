@@ -345,7 +345,10 @@ module _ (s : Core) (i : Invariant s) where
   judged_unlearned q e n c w read =
       by w.kind (subst (Judged l s.controller.rings (ring_words s.words)) e i.matching.matching.judged n c w read)
     where
-      by : (kind : RingKind) → IfLearn kind (stands_for l q.place q.key w.key ≡ false) → IfLearn kind (w.key ≢ q.key)
-      by Learn h = λ same. true≢false (sym (stands_self l q.place q.key) ∙ (ap (stands_for l q.place q.key) (sym same) ∙ h))
+      by : (kind : RingKind) → IfLearn kind (is_place_of l.shape w.key q.place ≡ true → stands_for l q.place q.key w.key ≡ false)
+          → IfLearn kind (w.key ≢ q.key)
+      by Learn h = λ same.
+          true≢false (sym (stands_self l q.place q.key)
+          ∙ (ap (stands_for l q.place q.key) (sym same) ∙ h (subst (λ z. is_place_of l.shape z q.place ≡ true) (sym same) (judged_own q e))))
       by Punt h = tt
       by Close h = tt
