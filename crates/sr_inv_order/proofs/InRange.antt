@@ -69,7 +69,7 @@ server_below s i key version = at (pool_of s.config.pools key.vip (named_at s.co
     at None e = some
     at (Some pool) e =
         picked_below s.config.layout some pool key
-        (pool_fits s.config i.shape.config key.vip (named_at s.controller.named key.vip version) pool e)
+        (pool_fits s.config i.shape.config key.vip (named_at s.controller.named key.vip version) pool e).is
 
 -- so is that of an answer
 pub answer_below : (s : Core) → Invariant s → (key : KeyView) (version : Option ℕ)
