@@ -2,6 +2,8 @@ pub mod Cells
 pub mod Choices
 pub mod Choosing
 pub mod FilterPlaces
+pub mod HoldLines
+pub mod KnownPhases
 pub mod LoadedServers
 pub mod LoadedWords
 pub mod ReleasesPass

@@ -101,7 +101,7 @@ last_keeps l f v (last.Mark bit rest) x P h = h
 last_keeps l f v last.Push x P h = h
 last_keeps l f v last.Out x P h = tt
 
-leg_keeps : (l : LayoutView) (f : Flight) (leg : Leg) (x : ℕ) (P : Flight → Type 0) → P f → OnFlight (leg_after l f leg x) P
+pub leg_keeps : (l : LayoutView) (f : Flight) (leg : Leg) (x : ℕ) (P : Flight → Type 0) → P f → OnFlight (leg_after l f leg x) P
 leg_keeps l f (Look place rest) x P h = h
 leg_keeps l f (Hit place n) x P h = h
 leg_keeps l f (Filter bit rest) x P h = h
@@ -243,7 +243,7 @@ not_way g x e t q a b =
 
 -- ---- the controller's step
 
-flight_then : (at : Stage) (P Q : Flight → Type 0) → ((f : Flight) (leg : Leg) → at ≡ Fly f leg → P f → Q f) → OnFlight at P → OnFlight at Q
+pub flight_then : (at : Stage) (P Q : Flight → Type 0) → ((f : Flight) (leg : Leg) → at ≡ Fly f leg → P f → Q f) → OnFlight at P → OnFlight at Q
 flight_then (Fly f leg) P Q t h = t f leg refl h
 flight_then Idle P Q t h = tt
 flight_then (Enter packet) P Q t h = tt

@@ -1,6 +1,6 @@
 //! What every event keeps.
 
-ghost use Rattle.sr_inv_facts.specs.InFlight.{CellsFree, ChoicesHold, FiltersSet, NumbersUsed, ReleasesPassed, ServersTold, WordsLoaded};
+ghost use Rattle.sr_inv_facts.specs.InFlight.{CellsFree, ChoicesHold, FiltersSet, NumbersUsed, PhasesKnown, ReleasesPassed, ServersTold, WordsLoaded};
 ghost use Rattle.sr_inv_facts.specs.Laws.{BegunKeeps, EventsKeep, OpensWith};
 
 /// A law: an opener that nothing has matched chooses by the word that it loaded, never in the phase that holds openers, and is held by a phase that it
@@ -56,4 +56,12 @@ pub fn servers_are_kept()
     ensures opening { OpensWith ServersTold }
     ensures begun { BegunKeeps ServersTold }
     ensures event { EventsKeep ServersTold }
+{}
+
+/// A law: since the last Hold line of the virtual address, no switch is known to a packet that loaded Holding, and no end of the update to one that
+/// loaded Transit; so it is at the opening, and so it stays with every event.
+pub fn known_phases_are_kept()
+    ensures opening { OpensWith PhasesKnown }
+    ensures begun { BegunKeeps PhasesKnown }
+    ensures event { EventsKeep PhasesKnown }
 {}

@@ -4,6 +4,6 @@
 mod laws;
 
 pub use laws::{
-    cells_are_kept, choices_are_kept, filter_places_are_kept, loaded_words_are_kept,
-    releases_are_kept, servers_are_kept, used_numbers_are_kept,
+    cells_are_kept, choices_are_kept, filter_places_are_kept, known_phases_are_kept,
+    loaded_words_are_kept, releases_are_kept, servers_are_kept, used_numbers_are_kept,
 };
