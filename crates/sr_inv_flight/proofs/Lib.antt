@@ -2,10 +2,12 @@ pub mod Cells
 pub mod Choices
 pub mod Choosing
 pub mod FilterPlaces
+pub mod FlightsKept
 pub mod HoldLines
 pub mod KnownPhases
 pub mod LoadedServers
 pub mod LoadedWords
+pub mod OverKeys
 pub mod ReleasesPass
 pub mod Steps
 pub mod UsedNumbers

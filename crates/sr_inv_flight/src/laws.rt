@@ -1,6 +1,6 @@
 //! What every event keeps.
 
-ghost use Rattle.sr_inv_facts.specs.InFlight.{CellsFree, ChoicesHold, FiltersSet, NumbersUsed, PhasesKnown, ReleasesPassed, ServersTold, WordsLoaded};
+ghost use Rattle.sr_inv_facts.specs.InFlight.{CellsFree, ChoicesHold, FiltersSet, InFlight, NumbersUsed, OverKeyed, PhasesKnown, ReleasesPassed, ServersTold, WordsLoaded};
 ghost use Rattle.sr_inv_facts.specs.Laws.{BegunKeeps, EventsKeep, OpensWith};
 
 /// A law: an opener that nothing has matched chooses by the word that it loaded, never in the phase that holds openers, and is held by a phase that it
@@ -64,4 +64,19 @@ pub fn known_phases_are_kept()
     ensures opening { OpensWith PhasesKnown }
     ensures begun { BegunKeeps PhasesKnown }
     ensures event { EventsKeep PhasesKnown }
+{}
+
+/// A law: the key of a connection that is over is one, while its place is still to be emptied; so it is at the opening, and so it stays with every
+/// event.
+pub fn over_keys_are_kept()
+    ensures opening { OpensWith OverKeyed }
+    ensures begun { BegunKeeps OverKeyed }
+    ensures event { EventsKeep OverKeyed }
+{}
+
+/// A law: what is said of packets in flight holds at the opening, and stays with every event.
+pub fn flights_are_kept()
+    ensures opening { OpensWith InFlight }
+    ensures begun { BegunKeeps InFlight }
+    ensures event { EventsKeep InFlight }
 {}
