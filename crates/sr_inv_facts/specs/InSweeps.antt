@@ -135,6 +135,10 @@ pub record QuietHolds (lines : List Line) (sweeps : ℕ) (j : Job) (key : KeyVie
 abbrev pub EntryQuiet : List Line → ℕ → Job → Entry → Type 0
 EntryQuiet lines sweeps j e = IfSome e.quiet (QuietHolds lines sweeps j e.key (rounds sweeps j e.taken))
 
+-- no sweep goes by an entry that stands nowhere
+abbrev pub UnplacedFresh : Entry → Type 0
+UnplacedFresh e = e.place ≡ None → e.quiet ≡ None
+
 -- ---- packets of a settled entry
 
 -- the tick from which on a packet's hit isn't swept yet; none while that isn't drawn
@@ -230,6 +234,7 @@ pub record SweepsHold (k : Config) (hits : Place → ℕ) (ring : ℕ → ℕ �
   pub ended : ClosedHold k.layout ring rings pipes entries j lines
   pub quiet : AllByRecursion (EntryQuiet lines sweeps j) entries
   pub settled : AllByRecursion (EntrySettled hits pipes lines sweeps j) entries
+  pub unplaced : AllByRecursion UnplacedFresh entries
 
 pub record InSweeps (s : Core) : Type 0 where
   pub sweeps : SweepsHold s.config (hit_words s.words) (ring_words s.words) s.pipes s.controller.book.entries s.controller.rings
@@ -244,3 +249,16 @@ SweepsAreCounted s =
 abbrev pub ClosedAre : Core → Type 0
 ClosedAre s =
     ClosedHold s.config.layout (ring_words s.words) s.controller.rings s.pipes s.controller.book.entries s.controller.job (printed s)
+
+-- its third part alone: quiet entries
+abbrev pub QuietAre : Core → Type 0
+QuietAre s = AllByRecursion (EntryQuiet (printed s) s.controller.sweeps s.controller.job) s.controller.book.entries
+
+-- its fourth part alone: packets of settled entries
+abbrev pub SettledAre : Core → Type 0
+SettledAre s =
+    AllByRecursion (EntrySettled (hit_words s.words) s.pipes (printed s) s.controller.sweeps s.controller.job) s.controller.book.entries
+
+-- its last part alone: entries that stand nowhere
+abbrev pub UnplacedAre : Core → Type 0
+UnplacedAre s = AllByRecursion UnplacedFresh s.controller.book.entries
