@@ -1,6 +1,43 @@
 -- No sweep goes by an entry that stands nowhere: every event keeps it.
-use Rattle.sr_machine.specs.Taking.{taking, ended_by}
-use Rattle.sr_shadow.specs.Entry.{closed, left_other, swept, settled, fresh}
+use Rattle.sr_base.proofs.Sameness.{same_key-true}
+use Rattle.sr_base.specs.Key.{KeyView}
+use Rattle.sr_base.specs.declared.place.Place.{Place}
+use Rattle.sr_inv_facts.proofs.Books.{changed_all}
+use Rattle.sr_inv_facts.proofs.Lists.{all_filtered, all_in, all_more, all_to_in}
+use Rattle.sr_inv_facts.proofs.Taking.{TakesBook, takes}
+use Rattle.sr_inv_facts.specs.Fitted.{IsPacket}
+use Rattle.sr_inv_facts.specs.InJobs.{JobHolds, seen}
+use Rattle.sr_inv_facts.specs.InSweeps.{UnplacedAre, UnplacedFresh}
+use Rattle.sr_inv_facts.specs.Invariant.{Invariant}
+use Rattle.sr_inv_facts.specs.Laws.{OpensWith}
+use Rattle.sr_inv_facts.specs.Readings.{In}
+use Rattle.sr_inv_matching.proofs.Members.{in_own}
+use Rattle.sr_machine.specs.Core.{Core, enters, printed}
+use Rattle.sr_machine.specs.Deciding.{is_withdrawn, version_for}
+use Rattle.sr_machine.specs.Jobs.{book_next, job_op, judged_book}
+use Rattle.sr_machine.specs.Keeping.{AfterJob, AfterStage, Keeps}
+use Rattle.sr_machine.specs.Opening.{opening_controller}
+use Rattle.sr_machine.specs.Ops.{op_answer, op_name}
+use Rattle.sr_machine.specs.Pipe.{pipe_op}
+use Rattle.sr_machine.specs.Reads.{read_flag}
+use Rattle.sr_machine.specs.Taking.{ended_by, taking}
+use Rattle.sr_machine.specs.declared.job.Job.{Job}
+use Rattle.sr_machine.specs.declared.op.Op.{Op}
+use Rattle.sr_machine.specs.declared.pipe_view.PipeView.{PipeView}
+use Rattle.sr_machine.specs.declared.put.Put.{Put}
+use Rattle.sr_machine.specs.declared.stage.Stage.{Stage}
+use Rattle.sr_shadow.specs.Book.{entry_for, is_registered, with_changed, with_taken}
+use Rattle.sr_shadow.specs.Entry.{closed, fresh, is_of, left_other, settled, swept}
+use Rattle.sr_shadow.specs.declared.book.Book.{Book}
+use Rattle.sr_shadow.specs.declared.entry.Entry.{Entry}
+use Rattle.std.proofs.Common.{Bool, List, None, Option, Some, [], ap, false, if◌then◌else◌, not, refl, subst, sym, true, ℕ, ◌++◌, ◌∙◌, ◌∷◌, ◌≡◌}
+use Rattle.std.proofs.lemmas.Option.{same_Some}
+use Rattle.std.specs.List.{AllByRecursion}
+use Rattle.sr_machine.specs.declared.draw.Draw.TheVariants as draw
+use Rattle.sr_machine.specs.declared.store.Store.TheVariants as store
+use Rattle.sr_machine.specs.declared.job.Job.TheVariants as job
+use Rattle.sr_machine.specs.declared.name.Name.TheVariants as name
+use Rattle.sr_inv_facts.proofs.Taking as takes_book
 
 module _ (s : Core) (i : Invariant s) where
   abbrev es : List Entry
@@ -9,8 +46,8 @@ module _ (s : Core) (i : Invariant s) where
   -- a change of an entry that keeps its place and its quiet sweeps
   changed_unplaced : (change : Entry → Entry) (key : KeyView) (fs : List Entry) → ((e : Entry) → (change e).place ≡ e.place)
       → ((e : Entry) → (change e).quiet ≡ e.quiet) → AllByRecursion UnplacedFresh fs → AllByRecursion UnplacedFresh (with_changed change key fs)
-  changed_unplaced change key fs places quiets a =
-      changed_all UnplacedFresh UnplacedFresh change key (λ e q h n. quiets e ∙ h (sym (places e) ∙ n)) (λ e q h. h) fs a
+  changed_unplaced change key fs stands quiets a =
+      changed_all UnplacedFresh UnplacedFresh change key (λ e q h n. quiets e ∙ h (sym (stands e) ∙ n)) (λ e q h. h) fs a
 
   -- a key that was not registered
   more_unplaced : (fs : List Entry) (key : KeyView) (version taken : ℕ) → AllByRecursion UnplacedFresh fs
@@ -49,7 +86,7 @@ module _ (s : Core) (i : Invariant s) where
 
       own : (e : Entry) → is_of key e ≡ true → UnplacedFresh e × In e es → UnplacedFresh (swept hit e)
       own e t h n =
-          let found : entry_for key es ≡ Some e = ap (λ z. entry_for z es) (same_key-true key e.key t) ∙ entry_is es e i.shape.book.distinct h.1 in
+          let found : entry_for key es ≡ Some e = ap (λ z. entry_for z es) (same_key-true key e.key t) ∙ in_own es e i.shape.book.distinct h.1 in
           let same : stands.0 ≡ e = same_Some stands.0 e (sym stands.1 ∙ found) in
           absurd (none_some (sym n ∙ (ap (λ z. z.place) (sym same) ∙ stands.2)))
         where
