@@ -1,0 +1,3 @@
+pub mod DowningKept
+pub mod MoreLines
+pub mod ReportsKept
