@@ -1,3 +1,5 @@
+pub mod Clashing
 pub mod DowningKept
 pub mod MoreLines
 pub mod ReportsKept
+pub mod Speaking
