@@ -1,24 +1,22 @@
 -- An opener that finds a word speaking to its key may be held: the place was reserved for a key that it clashes with, and wasn't cleared since.
-use Rattle.std.proofs.Common.{◌≡◌, ℕ, zero, suc, ◌+◌, ◌<◌, ◌&&◌, ◌||◌, ◌==◌, not, nat_lt, Bool, true, false, ◌⊎◌, List, [], ◌∷◌, map, if◌then◌else◌, IfSome, Some, None, Option, option_map, unwrap_or, sym, refl, ap, ◌∙◌, subst, inl, inr, arith}
+use Rattle.std.proofs.Common.{◌≡◌, ℕ, ◌<◌, ◌&&◌, ◌||◌, ◌==◌, not, nat_lt, Bool, true, false, List, [], ◌∷◌, if◌then◌else◌, Some, None, Option, option_map, sym, refl, ap, ◌∙◌, arith}
 use Rattle.std.proofs.lemmas.Bool.Decides.{nat_tests}
 use Rattle.std.proofs.lemmas.Option.{same_Some}
-use Rattle.std.specs.List.{AllByRecursion, list_any}
-use Rattle.std.specs.Option.{option_or}
+use Rattle.std.specs.List.{list_any}
 use Rattle.sr_base.proofs.Sameness.{same_key-sym, same_place-true}
-use Rattle.sr_base.specs.Key.{IsKey, KeyView, same_key}
+use Rattle.sr_base.specs.Key.{KeyView, same_key}
 use Rattle.sr_base.specs.Layout.{LayoutView}
 use Rattle.sr_base.specs.Place.{same_place}
 use Rattle.sr_base.specs.declared.place.Place.{Place}
 use Rattle.sr_base.specs.declared.place.Place.TheVariants.{Row, Slot}
 use Rattle.sr_base.specs.declared.shape.Shape.{Shape}
-use Rattle.sr_hash.specs.Clash.{clashes, tells_key}
-use Rattle.sr_hash.specs.Uses.{bucket_of, digest_of, group_of, is_place_of}
+use Rattle.sr_hash.specs.Clash.{clashes}
+use Rattle.sr_hash.specs.Uses.{bucket_of, is_place_of}
 use Rattle.sr_inv_facts.specs.InCauses.{AllMeet}
 use Rattle.sr_inv_facts.specs.InTicks.{AllOutBefore}
-use Rattle.sr_inv_order.proofs.Rising.{and_false, and_true, none_passes, not_false, or_false}
+use Rattle.sr_inv_order.proofs.Rising.{and_false, and_true, not_false, or_false}
 use Rattle.sr_inv_verdicts.proofs.MoreLines.{any_more, or_second}
 use Rattle.sr_law.specs.Held.{clears_between, is_between, matches_entry, may_clash, reserves_against}
-use Rattle.sr_law.specs.Keys.{clashes_in}
 use Rattle.sr_law.specs.Order.{meets_order}
 use Rattle.sr_law.specs.Retire.{EndingPacket}
 use Rattle.sr_law.specs.Rising.{after_last, rises}

@@ -1,14 +1,12 @@
 -- Every event keeps that a server that is being taken down is known to nobody yet.
-use Rattle.std.proofs.Common.{◌≡◌, ℕ, zero, suc, ◌+◌, ◌≤◌, ◌<◌, ◌&&◌, ◌||◌, ◌==◌, nat_eq, nat_lt, Bool, true, false, cond, List, [], ◌∷◌, ◌++◌, if◌then◌else◌, count_by, Some, None, Option, option_to_list, sym, refl, ap, ◌∙◌, subst, arith}
+use Rattle.std.proofs.Common.{◌≡◌, ℕ, ◌+◌, ◌≤◌, ◌&&◌, ◌||◌, ◌==◌, nat_eq, nat_lt, Bool, true, false, cond, List, [], ◌∷◌, ◌++◌, count_by, Some, None, Option, sym, refl, ap, ◌∙◌, subst, arith}
 use Rattle.std.proofs.lemmas.Bool.Decides.{nat_tests}
-use Rattle.std.proofs.lemmas.List.Sums.{sum_by-append, sum_by-cons}
-use Rattle.std.proofs.lemmas.Option.{same_Some}
+use Rattle.std.proofs.lemmas.List.Sums.{sum_by-cons}
 use Rattle.std.specs.List.{list_any}
 use Rattle.sr_base.specs.Fitting.{takes_down as change_takes_down}
 use Rattle.sr_base.specs.declared.change.Change.{Change}
 use Rattle.sr_base.specs.declared.change.What.{What}
 use Rattle.sr_base.specs.declared.change.What.TheVariants.{Give, TakeDown}
-use Rattle.sr_base.specs.declared.vip_word.Phase.{Phase}
 use Rattle.sr_inv_facts.proofs.Beginning.{begun_by}
 use Rattle.sr_inv_facts.proofs.Plain.{OfPlain, plain_cleared, plain_passed, plain_phase, plain_vip, plain_waited}
 use Rattle.sr_inv_facts.proofs.Printing.{prints, job_tells, stage_prints, tells, pipe_silent}
@@ -17,7 +15,7 @@ use Rattle.sr_inv_facts.specs.InCauses.{OnDowning}
 use Rattle.sr_inv_facts.specs.InShape.{downing, servers_of}
 use Rattle.sr_inv_facts.specs.Invariant.{Invariant}
 use Rattle.sr_inv_facts.specs.Laws.{OpensWith}
-use Rattle.sr_inv_order.proofs.Rising.{and_false, or_false}
+use Rattle.sr_inv_order.proofs.Rising.{or_false}
 use Rattle.sr_inv_verdicts.specs.Caused.{DowningUnknown}
 use Rattle.sr_law.specs.TakenDown.{is_down as told_down, is_known_down, takes_down, takes_down_before}
 use Rattle.sr_law.specs.Ticks.{is_controller, out_of}
@@ -25,14 +23,14 @@ use Rattle.sr_law.specs.declared.line.Line.{Line}
 use Rattle.sr_machine.proofs.Following.{goes}
 use Rattle.sr_machine.specs.Begins.{Begins}
 use Rattle.sr_machine.specs.Config.{Config}
-use Rattle.sr_machine.specs.Core.{Core, opening, printed}
+use Rattle.sr_machine.specs.Core.{Core, printed}
 use Rattle.sr_machine.specs.Deciding.{is_down}
 use Rattle.sr_machine.specs.Goes.{Goes}
 use Rattle.sr_machine.specs.Jobs.{job_next, job_op}
 use Rattle.sr_machine.specs.Keeping.{AfterJob, AfterStage, Keeps, begun_core}
 use Rattle.sr_machine.specs.Opening.{opening_controller, outages_in}
 use Rattle.sr_machine.specs.Ops.{op_answer, op_name}
-use Rattle.sr_machine.specs.Pipe.{packet_line, pipe_op}
+use Rattle.sr_machine.specs.Pipe.{pipe_op}
 use Rattle.sr_machine.specs.Starting.{Start}
 use Rattle.sr_machine.specs.declared.controller_view.ControllerView.{ControllerView}
 use Rattle.sr_machine.specs.declared.job.Job.{Job}
@@ -134,7 +132,7 @@ none_before server tick (l ∷ rest) h = at (takes_down server l) h (none_before
     at true g more = cc
     at false g more = more g
 
-none_known : (server tick : ℕ) (lines : List Line) → told_down lines server ≡ false → is_known_down lines server tick ≡ false
+pub none_known : (server tick : ℕ) (lines : List Line) → told_down lines server ≡ false → is_known_down lines server tick ≡ false
 none_known server tick [] h = refl
 none_known server tick (l ∷ rest) h = at (takes_down server l) h (none_known server tick rest)
   where

@@ -1,5 +1,8 @@
 pub mod Clashing
 pub mod DowningKept
+pub mod Filling
 pub mod MoreLines
+pub mod OwnPlaces
 pub mod ReportsKept
 pub mod Speaking
+pub mod VerdictsKept

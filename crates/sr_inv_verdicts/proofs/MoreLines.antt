@@ -1,5 +1,5 @@
 -- A packet's cause stands when a line comes that is out after the packet entered, and isn't of its pipe.
-use Rattle.std.proofs.Common.{◌≡◌, ℕ, ◌+◌, ◌<◌, ◌≢◌, ◌&&◌, ◌||◌, ◌==◌, not, nat_le, nat_lt, Bool, true, false, List, [], ◌∷◌, if◌then◌else◌, sym, refl, ap, ◌∙◌, subst, arith}
+use Rattle.std.proofs.Common.{◌≡◌, ℕ, ◌+◌, ◌<◌, ◌≢◌, ◌&&◌, ◌||◌, ◌==◌, not, nat_le, nat_lt, Bool, true, false, List, [], ◌∷◌, if◌then◌else◌, refl, ap, ◌∙◌, arith}
 use Rattle.std.proofs.lemmas.Bool.Decides.{nat_tests}
 use Rattle.std.specs.List.{list_any}
 use Rattle.sr_base.specs.Key.{KeyView, same_key}
@@ -11,7 +11,7 @@ use Rattle.sr_base.specs.declared.shape.Shape.{Shape}
 use Rattle.sr_inv_facts.specs.Flying.{IfOpener}
 use Rattle.sr_inv_facts.specs.InCauses.{LegCaused, VerdictCaused}
 use Rattle.sr_inv_order.proofs.Rising.{and_false, or_false}
-use Rattle.sr_law.specs.Full.{answers_before, held_count, is_held_in, may_be_full, may_push, was_answered, words_since}
+use Rattle.sr_law.specs.Full.{answers_before, held_count, is_held_in, may_be_full, may_push, words_since}
 use Rattle.sr_law.specs.Held.{clears_between, is_between, matches_entry, may_clash, reserves_against}
 use Rattle.sr_law.specs.TakenDown.{is_down, is_known_down, takes_down, takes_down_before}
 use Rattle.sr_law.specs.Ticks.{is_controller, out_of}

@@ -1,8 +1,8 @@
 -- A word that speaks to a key tells that the place is taken, by the lines, by a key that it clashes with.
-use Rattle.std.proofs.Common.{◌≡◌, ℕ, ◌+◌, ◌<◌, ◌||◌, not, Bool, true, false, List, [], ◌∷◌, if◌then◌else◌, IfSome, Some, None, Option, option_map, unwrap_or, sym, refl, ap, ◌∙◌, subst}
+use Rattle.std.proofs.Common.{◌≡◌, ℕ, ◌<◌, ◌||◌, not, Bool, true, false, List, if◌then◌else◌, Some, None, Option, option_map, unwrap_or, sym, refl, ap, ◌∙◌, subst}
 use Rattle.std.proofs.lemmas.Option.{same_Some}
 use Rattle.std.specs.Option.{option_or}
-use Rattle.sr_base.proofs.Sameness.{same_place-self, same_place-true}
+use Rattle.sr_base.proofs.Sameness.{same_place-true}
 use Rattle.sr_base.specs.Key.{IsKey, KeyView}
 use Rattle.sr_base.specs.Layout.{LayoutView}
 use Rattle.sr_base.specs.Place.{same_place}
@@ -31,9 +31,8 @@ use Rattle.sr_machine.specs.Reads.{live_word, reserved_word, says, stands_for}
 use Rattle.sr_machine.specs.declared.job.Job.{Job}
 use Rattle.sr_machine.specs.declared.put.Put.{Put}
 use Rattle.sr_machine.specs.declared.wait.Wait.{Wait}
-use Rattle.sr_machine.specs.declared.why.Why.{Why}
 use Rattle.sr_shadow.proofs.Finding.{found_passes}
-use Rattle.sr_shadow.specs.Book.{entry_for, holder_entry, holder_of}
+use Rattle.sr_shadow.specs.Book.{holder_entry, holder_of}
 use Rattle.sr_shadow.specs.Entry.{holds, is_at}
 use Rattle.sr_shadow.specs.declared.entry.Entry.{Entry}
 use Rattle.sr_update.proofs.Dues.{all_find}
@@ -43,7 +42,6 @@ use Rattle.sr_machine.specs.declared.wait.Wait.TheVariants as wait
 use Rattle.sr_machine.specs.declared.why.Why.TheVariants as why
 use Rattle.sr_machine.specs.declared.job.Job.TheVariants as job
 use Rattle.sr_machine.specs.declared.name.Name.TheVariants as name
-use Rattle.sr_machine.specs.declared.said.Said.{Said}
 use Rattle.sr_machine.specs.declared.said.Said.TheVariants as said
 
 -- the place is taken by a key whose entry there is taken for this one's

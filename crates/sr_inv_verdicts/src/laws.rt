@@ -18,3 +18,12 @@ pub fn reports_are_told()
     ensures begun { BegunKeeps ReportsTold }
     ensures event { EventsKeep ReportsTold }
 {}
+
+/// A law: at every moment each packet in flight has a cause, in the lines so far, for the verdict that it has: an opener that found an entry one that it clashes
+/// with, one that found its ring full as many reports as the ring has cells, and no packet is sent to a server that was known to be down when it
+/// entered; so it is at the opening, and so it stays with every event.
+pub fn verdicts_have_causes()
+    ensures opening { OpensWith FlightsCaused }
+    ensures begun { BegunKeeps FlightsCaused }
+    ensures event { EventsKeep FlightsCaused }
+{}

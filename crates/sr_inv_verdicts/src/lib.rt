@@ -3,4 +3,4 @@
 
 mod laws;
 
-pub use laws::{downs_are_unknown, reports_are_told};
+pub use laws::{downs_are_unknown, reports_are_told, verdicts_have_causes};
