@@ -80,7 +80,7 @@ has_room l ring taken pushed h some empty = at (cases_lt pushed (taken + l.shape
 -- where a leg needs no cell
 early : (ring taken pushed : ℕ) (f : Flight) → Finds f (LegFree ring taken pushed)
 early ring taken pushed f =
-    record { look = λ place rest. tt; filter = λ bit rest. tt; held = λ why. tt; current = tt; next = λ e. tt }
+    record { look = λ place rest. tt; filter = λ bit rest. tt; held = λ why. tt; current = tt }
 
 -- the step at the ring finds room where it finds the cell empty
 abbrev FindsRoom : ℕ → ℕ → ℕ → Leg → ℕ → Type 0
@@ -124,7 +124,7 @@ module _ (l : LayoutView) (ring taken pushed : ℕ) (f : Flight) where
       looked_finds l f (LegFree ring taken pushed) (early ring taken pushed f) place rest (says l place f.packet.key x) (λ n e. tt)
   leg_free (Hit place n) x g r h = found_or l f (LegFree ring taken pushed) (early ring taken pushed f) by.Clash n tt
   leg_free (Filter bit rest) x g r h =
-      filtered_finds l f (LegFree ring taken pushed) (early ring taken pushed f) rest (has_bit bit x) g.transit
+      filtered_finds l f (LegFree ring taken pushed) (early ring taken pushed f) rest (has_bit bit x) (λ e. tt)
   leg_free (Chosen n next) x g r h = loaded_free n next x
   leg_free (Judged v next) x g r h = last_free v next x r h
 

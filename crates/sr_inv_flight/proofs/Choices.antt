@@ -28,7 +28,7 @@ OnTold l f P leg x = Unit {0}
 module _ (l : LayoutView) (f : Flight) (P : Flight → ℕ → Type 0) (current : P f f.vip.cur) (next : f.vip.phase ≡ Transit → P f f.vip.next) where
   finds : Finds f (λ leg. OnNumber leg (P f))
   finds =
-      record { look = λ place rest. tt; filter = λ bit rest. tt; held = λ why. tt; current = current; next = next }
+      record { look = λ place rest. tt; filter = λ bit rest. tt; held = λ why. tt; current = current }
 
   pub begins_number : (places : List Place) → OnNumber (looking l f places) (P f)
   begins_number places = looking_finds l f (λ leg. OnNumber leg (P f)) finds places
@@ -61,6 +61,6 @@ module _ (l : LayoutView) (f : Flight) (P : Flight → ℕ → Type 0) (current 
   leg_number (Look place rest) x g t h =
       looked_finds l f (λ leg. OnNumber leg (P f)) finds place rest (says l place f.packet.key x) t
   leg_number (Hit place n) x g t h = found_or l f (λ leg. OnNumber leg (P f)) finds by.Clash n h
-  leg_number (Filter bit rest) x g t h = filtered_finds l f (λ leg. OnNumber leg (P f)) finds rest (has_bit bit x) g.transit
+  leg_number (Filter bit rest) x g t h = filtered_finds l f (λ leg. OnNumber leg (P f)) finds rest (has_bit bit x) (λ e. next g.transit)
   leg_number (Chosen n next) x g t h = loaded_number n next x h
   leg_number (Judged v next) x g t h = last_number v next x h

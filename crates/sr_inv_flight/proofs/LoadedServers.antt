@@ -69,7 +69,7 @@ AnswersPool l k named key leg x = Unit {0}
 module _ (l : LayoutView) (k : Config) (named : List (List ℕ)) (f : Flight) where
   -- nothing is loaded of a version before it is chosen
   unloaded : Finds f (LegTells k named f.packet.key)
-  unloaded = record { look = λ place rest. tt; filter = λ bit rest. tt; held = λ why. tt; current = tt; next = λ e. tt }
+  unloaded = record { look = λ place rest. tt; filter = λ bit rest. tt; held = λ why. tt; current = tt }
 
   pub begins_tells : LegTells k named f.packet.key (looking l f (key_places l f.packet.key))
   begins_tells = looking_finds l f (LegTells k named f.packet.key) unloaded (key_places l f.packet.key)
@@ -104,7 +104,7 @@ module _ (l : LayoutView) (k : Config) (named : List (List ℕ)) (f : Flight) wh
   leg_tells (Look place rest) x g h a =
       looked_finds l f (LegTells k named f.packet.key) unloaded place rest (says l place f.packet.key x) (λ n e. tt)
   leg_tells (Hit place n) x g h a = found_or l f (LegTells k named f.packet.key) unloaded by.Clash n tt
-  leg_tells (Filter bit rest) x g h a = filtered_finds l f (LegTells k named f.packet.key) unloaded rest (has_bit bit x) g.transit
+  leg_tells (Filter bit rest) x g h a = filtered_finds l f (LegTells k named f.packet.key) unloaded rest (has_bit bit x) (λ e. tt)
   leg_tells (Chosen n next) x g h a = loaded_tells n next x h a
   leg_tells (Judged v next) x g h a = last_tells v next x h
 

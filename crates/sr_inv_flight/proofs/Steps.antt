@@ -51,13 +51,12 @@ stage_turns l (Leave f) x P Q begins t h = tt
 
 -- ---- what a packet may come to until it has chosen
 
--- what is owed of where a packet may come to as it looks: a place, the filter, a verdict that holds it, or a version of its word
+-- what is owed of where a packet may come to as it looks: a place, the filter, a verdict that holds it, or the current version of its word
 pub record Finds (f : Flight) (P : Leg → Type 0) : Type 0 where
   pub look : (place : Place) (rest : List Place) → P (Look place rest)
   pub filter : (bit : ℕ) (rest : List ℕ) → P (Filter bit rest)
   pub held : (why : HeldBy) → P (Judged (verdict.Held why) last.Ring)
   pub current : P (Chosen f.vip.cur load.Head)
-  pub next : f.vip.phase ≡ Transit → P (Chosen f.vip.next load.Head)
 
 module _ (l : LayoutView) (f : Flight) (P : Leg → Type 0) (h : Finds f P) where
   -- an opener is held where another packet has a version
@@ -92,6 +91,7 @@ module _ (l : LayoutView) (f : Flight) (P : Leg → Type 0) (h : Finds f P) wher
       at false = looking_finds rest
   looked_finds place rest (said.Live n) hit = hit n refl
 
-  pub filtered_finds : (rest : List ℕ) (set : Bool) → f.vip.phase ≡ Transit → P (filtered f rest set)
-  filtered_finds rest true e = filtering_finds rest
-  filtered_finds rest false e = h.next e
+  -- where a place of the filter is clear it has the next version
+  pub filtered_finds : (rest : List ℕ) (set : Bool) → (set ≡ false → P (Chosen f.vip.next load.Head)) → P (filtered f rest set)
+  filtered_finds rest true next = filtering_finds rest
+  filtered_finds rest false next = next refl

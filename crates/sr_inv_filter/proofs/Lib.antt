@@ -1,0 +1,3 @@
+pub mod FilterSteps
+pub mod Learners
+pub mod LoadedPhases

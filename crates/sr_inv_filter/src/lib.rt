@@ -1,0 +1,6 @@
+//! Every event keeps which keys are in the transit filter: the family `InFilter` of the invariant, in parts and whole.
+#![tactic(auto)]
+
+mod laws;
+
+pub use laws::learners_are_kept;
