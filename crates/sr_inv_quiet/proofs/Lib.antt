@@ -1,1 +1,7 @@
+pub mod HitQuiet
+pub mod Placed
+pub mod QuietJobs
+pub mod QuietTurns
+pub mod SweepLines
+pub mod SweepTicks
 pub mod UnplacedKept
