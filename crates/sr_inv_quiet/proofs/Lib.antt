@@ -1,6 +1,7 @@
 pub mod HitQuiet
 pub mod Placed
 pub mod QuietJobs
+pub mod QuietKept
 pub mod QuietTurns
 pub mod SweepLines
 pub mod SweepTicks

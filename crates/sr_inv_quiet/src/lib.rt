@@ -1,6 +1,6 @@
-//! Every event keeps that quiet connections are quiet by the lines: the family `InSweeps` of the invariant, joined.
+//! Every event keeps that quiet connections are quiet by the lines: parts of the family `InSweeps` of the invariant.
 #![tactic(auto)]
 
 mod laws;
 
-pub use laws::unplaced_are_kept;
+pub use laws::{quiet_are_kept, unplaced_are_kept};
