@@ -258,7 +258,7 @@ module _ (s : Core) (i : Invariant s) where
           at false = in_front es (fresh planned 0 0 ∷ []) n m
 
       -- no other entry's packets are taken for the put's
-      others_silent : (n : Entry) → In n es → is_of q.key n ≡ false → is_outside n ≡ true → (at : Place) → q.place ≡ at → is_place_of l.shape n.key at ≡ true
+      pub others_silent : (n : Entry) → In n es → is_of q.key n ≡ false → is_outside n ≡ true → (at : Place) → q.place ≡ at → is_place_of l.shape n.key at ≡ true
           → is_place_of l.shape q.key at ≡ true → stands_for l at q.key n.key ≡ true → ⊥
       others_silent n m other out (Row row) here a b t = true≢false (sym (ap (λ k. same_key q.key k) (same_key-true n.key q.key t) ∙ same_key-self q.key) ∙ other)
       others_silent n m other out (Slot way bucket cell) here a b t =

@@ -1,0 +1,12 @@
+pub mod Agreeing
+pub mod Duty
+pub mod Going
+pub mod JobTracks
+pub mod Known
+pub mod LiveTracks
+pub mod Missing
+pub mod Passing
+pub mod Placed
+pub mod StageTracks
+pub mod StoreTracks
+pub mod TrackKept
