@@ -18,7 +18,7 @@ use Rattle.sr_inv_facts.specs.Invariant.{Invariant}
 use Rattle.sr_inv_facts.specs.Laws.{OpensWith}
 use Rattle.sr_inv_facts.specs.Readings.{EachLearn, EachReport, IfLearn, OnReport, SpeaksLive, entry_words, ring_words}
 use Rattle.sr_inv_matching.proofs.Reports.{RingsAre, RingsFall, Stores, if_learn, own_report, rings_job, rings_stage, sent_missed}
-use Rattle.sr_inv_matching.proofs.Saying.{empty_silent, live_silent, live_speaks, missed_reserved, reserved_not_live}
+use Rattle.sr_inv_matching.proofs.Saying.{empty_silent, speaks_live, live_speaks, missed_reserved, reserved_not_live}
 use Rattle.sr_inv_matching.proofs.Stepping.{stage_entries}
 use Rattle.sr_inv_matching.proofs.UnmatchedKept.{LeavesEntries}
 use Rattle.sr_machine.specs.Core.{Core, printed}
@@ -109,7 +109,7 @@ module _ (s : Core) (i : Invariant s) where
   sent_unspoken : (p : ℕ) (v : PipeView) (q : slice_get s.pipes p ≡ Some v) (f : Flight) (server version pool : ℕ)
       → v.stage ≡ Fly f (leg.Judged (verdict.To server version pool) last.Push) → f.packet.kind ≡ Opener → IsUnspoken l w f.packet.key
   sent_unspoken p v q f server version pool e o place own sp =
-      let r = missed_reserved s i s.controller.job p f.entered place refl (sent_missed s i p v q f server version pool e o place own (live_silent (says l place f.packet.key (w place)) sp)) in
+      let r = missed_reserved s i s.controller.job p f.entered place refl (sent_missed s i p v q f server version pool e o place own (speaks_live (says l place f.packet.key (w place)) sp)) in
       reserved_not_live l i.shape.config.layout r.put.place r.put.key f.packet.key r.fits.key.is_key
       (subst (λ x. SpeaksLive (says l r.put.place f.packet.key x)) r.word (subst (λ z. SpeaksLive (says l z f.packet.key (w z))) r.same sp))
 
@@ -170,7 +170,7 @@ module _ (s : Core) (i : Invariant s) where
 
   emptied : (at : Place) → EachLearn l (ring_words s.words) (λ key version. IsUnspoken l (λ place. if same_place at place then 0 else w place) key)
   emptied at =
-      stored at 0 (λ n c r read. of_each r.kind _ (λ own sp. empty_silent l at r.key 0 refl (live_silent (says l at r.key 0) sp)))
+      stored at 0 (λ n c r read. of_each r.kind _ (λ own sp. empty_silent l at r.key 0 refl (speaks_live (says l at r.key 0) sp)))
 
   put_of_job : (j : Job) → s.controller.job ≡ j → JobHolds s.config (seen s.controller) (printed s) j
   put_of_job j e = subst (JobHolds s.config (seen s.controller) (printed s)) e i.jobs.holds.stands
@@ -197,7 +197,7 @@ module _ (s : Core) (i : Invariant s) where
       by false =
           stored q.place (live_word l q.place q.key version) (λ n c r read.
           if_learn r.kind (is_place_of l.shape r.key q.place ≡ true → stands_for l q.place q.key r.key ≡ false) _ (λ a own sp.
-          true≢false (sym (live_speaks l i.shape.config.layout q.place q.key r.key version fits.key.is_key (version_below s.config i.shape.config.layout s.controller i.shape.book i.shape.controller q.key) (live_silent (says l q.place r.key (live_word l q.place q.key version)) sp)) ∙ a own)) (apart n c r read))
+          true≢false (sym (live_speaks l i.shape.config.layout q.place q.key r.key version fits.key.is_key (version_below s.config i.shape.config.layout s.controller i.shape.book i.shape.controller q.key) (speaks_live (says l q.place r.key (live_word l q.place q.key version)) sp)) ∙ a own)) (apart n c r read))
 
   job_unspoken : (j : Job) → s.controller.job ≡ j → AfterJob LearnedAreUnspoken s j (job_op s.config s.controller j)
   job_unspoken job.Free e = tt

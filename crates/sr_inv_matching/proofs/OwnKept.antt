@@ -29,7 +29,7 @@ use Rattle.sr_inv_facts.specs.Readings.{IfLearn, In, Speaks, SpeaksLive, entry_w
 use Rattle.sr_machine.specs.declared.why.Why.{Why}
 use Rattle.sr_shadow.proofs.Finding.{found_passes}
 use Rattle.sr_inv_matching.proofs.Members.{any_in, in_found, in_front, in_mapped, in_own, in_parts, member_other}
-use Rattle.sr_inv_matching.proofs.Saying.{empty_silent, live_silent, live_speaks, reserved_not_live}
+use Rattle.sr_inv_matching.proofs.Saying.{empty_silent, speaks_live, live_speaks, reserved_not_live}
 use Rattle.sr_inv_matching.proofs.Stepping.{stage_entries}
 use Rattle.sr_inv_matching.proofs.UnmatchedKept.{LeavesEntries}
 use Rattle.sr_machine.specs.Core.{Core, printed}
@@ -142,7 +142,7 @@ module _ (s : Core) (i : Invariant s) where
           subst (λ z. holds z e ≡ true) q (turn (subst (λ z. SpeaksLive (says l z e.key x)) (sym q) sp) (subst (λ z. is_place_of l.shape e.key z ≡ true) (sym q) own) out)
 
   silent_zero : (at : Place) (key : KeyView) → SpeaksLive (says l at key 0) → ⊥
-  silent_zero at key sp = empty_silent l at key 0 refl (live_silent (says l at key 0) sp)
+  silent_zero at key sp = empty_silent l at key 0 refl (speaks_live (says l at key 0) sp)
 
   emptied_all : (at : Place) → AllByRecursion (OwnSpeak l (after at 0)) es
   emptied_all at =
@@ -229,13 +229,13 @@ module _ (s : Core) (i : Invariant s) where
             ∙ (ap (clashes_at l.shape q.key n.key) stands ∙ (ap (λ x. x && clashes l.shape way q.key n.key) (ways_of l.shape way bucket cell q.key a) ∙ c))
 
         at : (o : Option Entry) → holder_entry place es ≡ o → ⊥
-        at None h = empty_silent l place q.key (w place) (word None h ∙ ap (λ b. if b then reserved_word l q.place q.key else 0) apart) (live_silent (says l place q.key (w place)) sp)
+        at None h = empty_silent l place q.key (w place) (word None h ∙ ap (λ b. if b then reserved_word l q.place q.key else 0) apart) (speaks_live (says l place q.key (w place)) sp)
         at (Some n) h =
             let m : In n es = in_found (holds place) es n h in
             let f = entry_in n m in
             let here : n.place ≡ Some place = at_is place n.place (held_alone place n (no_also n m) (found_passes (holds place) es n h)) in
             let t : stands_for l place n.key q.key ≡ true =
-            live_speaks l i.shape.config.layout place n.key q.key n.version f.key f.version (subst (λ x. Speaks (says l place q.key x)) (word (Some n) h) (live_silent (says l place q.key (w place)) sp)) in
+            live_speaks l i.shape.config.layout place n.key q.key n.version f.key f.version (subst (λ x. Speaks (says l place q.key x)) (word (Some n) h) (speaks_live (says l place q.key (w place)) sp)) in
             true≢false (sym (any_in (is_mistaken l.shape q.key) es n m (mistaken n m place here own (subst (PlaceFits l.shape n.key) here f.place) t)) ∙ not_true (list_any (is_mistaken l.shape q.key) es) clear)
           where
             not_true : (b : Bool) → not b ≡ true → b ≡ false
@@ -274,7 +274,7 @@ module _ (s : Core) (i : Invariant s) where
       speaks_for : (key : KeyView) → SpeaksLive (says l q.place key word) → stands_for l q.place q.key key ≡ true
       speaks_for key sp =
           live_speaks l i.shape.config.layout q.place q.key key version fits.key.is_key
-          (version_below s.config i.shape.config.layout s.controller i.shape.book i.shape.controller q.key) (live_silent (says l q.place key word) sp)
+          (version_below s.config i.shape.config.layout s.controller i.shape.book i.shape.controller q.key) (speaks_live (says l q.place key word) sp)
 
       other_own : (n : Entry) → In n es → is_of q.key n ≡ false → OwnSpeak l (after q.place word) n
       other_own n m other =

@@ -96,10 +96,10 @@ live_speaks l i place key other version h v sp = at (stands_for l place key othe
     at true q t = refl
     at false q t = absurd t
 
-pub live_silent : (s : Said) → SpeaksLive s → Speaks s
-live_silent said.Nothing t = t
-live_silent said.Reserved t = tt
-live_silent (said.Live n) t = tt
+pub speaks_live : (s : Said) → SpeaksLive s → Speaks s
+speaks_live said.Nothing t = t
+speaks_live said.Reserved t = tt
+speaks_live (said.Live n) t = tt
 
 -- an empty place says nothing
 pub empty_silent : (l : LayoutView) (place : Place) (other : KeyView) (x : ℕ) → x ≡ 0 → Speaks (says l place other x) → ⊥

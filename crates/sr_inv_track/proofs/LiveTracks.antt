@@ -166,11 +166,8 @@ module _ (s : Core) (i : Invariant s) (q : Put) (e : s.controller.job ≡ job.St
     -- the entry of another key that stands in a row is found before
     in_row : (x : Entry) → entry_for f.packet.key es ≡ Some x → x.version ≡ n → same_key f.packet.key q.key ≡ false → is_outside x ≡ false
         → GoesPlaces l now bits f n looks
-    in_row x found u other inside = by x.place refl (ap not_back inside_is)
+    in_row x found u other inside = by x.place refl inside_is
       where
-        not_back : Bool → Bool
-        not_back b = b
-
         inside_is : is_row x.place ≡ true
         inside_is = two (is_row x.place) inside
           where
