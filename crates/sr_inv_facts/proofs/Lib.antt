@@ -1,6 +1,7 @@
 pub mod Beginning
 pub mod Books
 pub mod CurrentVersions
+pub mod DrainedRings
 pub mod Entries
 pub mod Filters
 pub mod FittedPools

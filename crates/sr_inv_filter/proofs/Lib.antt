@@ -1,3 +1,5 @@
 pub mod FilterSteps
 pub mod Learners
 pub mod LoadedPhases
+pub mod RingReports
+pub mod Sent

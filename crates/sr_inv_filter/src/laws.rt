@@ -1,6 +1,6 @@
 //! What every event keeps.
 
-ghost use Rattle.sr_inv_facts.specs.InFilter.{LearnersKept};
+ghost use Rattle.sr_inv_facts.specs.InFilter.{LearnersKept, ReportsKept};
 ghost use Rattle.sr_inv_facts.specs.Laws.{BegunKeeps, EventsKeep, OpensWith};
 
 /// A law: an opener that may yet be learned by the version that an update gives isn't in the filter, once the switch is stored; so it is at the opening,
@@ -9,4 +9,13 @@ pub fn learners_are_kept()
     ensures opening { OpensWith LearnersKept }
     ensures begun { BegunKeeps LearnersKept }
     ensures event { EventsKeep LearnersKept }
+{}
+
+/// A law: a key whose report waits in a ring was learned by a version of the present word; once Recording is settled it is in the filter, in Transit it is
+/// there with the old version and not with the new one, and once Transit is settled no report tells the old one; so it is at the opening, and so it
+/// stays with every event.
+pub fn ring_reports_are_kept()
+    ensures opening { OpensWith ReportsKept }
+    ensures begun { BegunKeeps ReportsKept }
+    ensures event { EventsKeep ReportsKept }
 {}
