@@ -1,3 +1,4 @@
+pub mod DrainedReports
 pub mod FilterSteps
 pub mod Learners
 pub mod LoadedPhases

@@ -1,6 +1,6 @@
 //! What every event keeps.
 
-ghost use Rattle.sr_inv_facts.specs.InFilter.{LearnersKept, ReportsKept};
+ghost use Rattle.sr_inv_facts.specs.InFilter.{DrainedKept, LearnersKept, ReportsKept};
 ghost use Rattle.sr_inv_facts.specs.Laws.{BegunKeeps, EventsKeep, OpensWith};
 
 /// A law: an opener that may yet be learned by the version that an update gives isn't in the filter, once the switch is stored; so it is at the opening,
@@ -18,4 +18,12 @@ pub fn ring_reports_are_kept()
     ensures opening { OpensWith ReportsKept }
     ensures begun { BegunKeeps ReportsKept }
     ensures event { EventsKeep ReportsKept }
+{}
+
+/// A law: behind the drain for Recording each key that a report tells is in the filter, and behind the one for Transit no report tells the old
+/// version; so it is at the opening, and so it stays with every event.
+pub fn drained_reports_are_kept()
+    ensures opening { OpensWith DrainedKept }
+    ensures begun { BegunKeeps DrainedKept }
+    ensures event { EventsKeep DrainedKept }
 {}

@@ -3,4 +3,4 @@
 
 mod laws;
 
-pub use laws::{learners_are_kept, ring_reports_are_kept};
+pub use laws::{drained_reports_are_kept, learners_are_kept, ring_reports_are_kept};
