@@ -6,7 +6,6 @@ use Rattle.sr_base.specs.declared.kind.Kind.TheVariants.{Carry, Ending, Opener}
 use Rattle.sr_base.specs.declared.place.Place.{Place}
 use Rattle.sr_inv_facts.proofs.Books.{changed_all}
 use Rattle.sr_inv_facts.proofs.Lists.{all_in, all_then, all_to_in, of_some}
-use Rattle.sr_inv_facts.proofs.Pipes.{idle}
 use Rattle.sr_inv_facts.specs.Flying.{IfOther}
 use Rattle.sr_inv_facts.specs.InJobs.{JobHolds, job_taking, leaving, seen}
 use Rattle.sr_inv_facts.specs.InSweeps.{EntryQuiet, EntrySettled, IsFrom, LineSettled, QuietHolds, SettledAt, UnplacedFresh, base_by, base_of, is_past, rounds, running_from, since, sweep_from, sweep_to}
@@ -23,7 +22,6 @@ use Rattle.sr_law.specs.declared.line.Line.{Line}
 use Rattle.sr_law.specs.declared.sweep.Sweep.{Sweep}
 use Rattle.sr_machine.specs.Core.{Core, printed, told}
 use Rattle.sr_machine.specs.Draws.{sweeping}
-use Rattle.sr_machine.specs.Goes.{placed}
 use Rattle.sr_machine.specs.Reads.{read_flag}
 use Rattle.sr_machine.specs.declared.job.Job.{Job}
 use Rattle.sr_shadow.proofs.Finding.{found_passes}
@@ -64,14 +62,14 @@ before_is None t e h = cc
 before_is (Some n) t e h = let low : n < t = h n refl in grind (arith, nat_tests)
 
 -- what becomes of the quiet sweeps of an entry: none so far, or one more, of at most 255
-data Counts (hit : Bool) (was : Option ℕ) : ℕ → Type 0 where
-  anew : Counts hit was 0
-  one_more : (n : ℕ) → hit ≡ false → was ≡ Some n → Counts hit was (min 255 (n + 1))
+pub data Counts (hit : Bool) (was : Option ℕ) : ℕ → Type 0 where
+  starts_over : Counts hit was 0
+  counts_on : (n : ℕ) → hit ≡ false → was ≡ Some n → Counts hit was (min 255 (n + 1))
 
-counts : (hit : Bool) (was : Option ℕ) → Counts hit was (quiet_after hit was)
-counts hit None = anew
-counts true (Some n) = anew
-counts false (Some n) = one_more n refl refl
+pub counts : (hit : Bool) (was : Option ℕ) → Counts hit was (quiet_after hit was)
+counts hit None = starts_over
+counts true (Some n) = starts_over
+counts false (Some n) = counts_on n refl refl
 
 module _ (s : Core) (i : Invariant s) (from ms : ℕ) (key : KeyView) (place : Place) (number : ℕ) (q : s.controller.job ≡ job.Hit from ms key place number) where
   abbrev es : List Entry
@@ -176,7 +174,7 @@ module _ (s : Core) (i : Invariant s) (from ms : ℕ) (key : KeyView) (place : P
     -- its quiet sweeps after it
     own_quiet : (o : Option ℕ) → e.quiet ≡ o → (n : ℕ) → Counts (read_flag x) o n
         → QuietHolds (printed s) s.controller.sweeps hit_next_job e.key (s.controller.sweeps + 1) n
-    own_quiet o g n anew = record {
+    own_quiet o g n starts_over = record {
       less = omega arith;
       began = record {
         from = from;
@@ -186,7 +184,7 @@ module _ (s : Core) (i : Invariant s) (from ms : ℕ) (key : KeyView) (place : P
       };
       idle = λ some. absurd (omega arith);
     }
-    own_quiet o g n (one_more c none was) =
+    own_quiet o g n (counts_on c none was) =
         let before : QuietHolds (printed s) s.controller.sweeps (job.Hit from ms key place number) e.key s.controller.sweeps c =
         subst (λ gone. QuietHolds (printed s) s.controller.sweeps (job.Hit from ms key place number) e.key gone c) gone_before
         (of_some (QuietHolds (printed s) s.controller.sweeps (job.Hit from ms key place number) e.key (rounds s.controller.sweeps (job.Hit from ms key place number) e.taken)) e.quiet c (lives e m) (g ∙ was)) in

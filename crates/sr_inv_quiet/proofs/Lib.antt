@@ -1,8 +1,14 @@
+pub mod FindsOwn
 pub mod HitQuiet
 pub mod Placed
 pub mod QuietJobs
 pub mod QuietKept
 pub mod QuietTurns
+pub mod SettledJobs
+pub mod SettledKept
+pub mod SettledStages
+pub mod SettledTurns
 pub mod SweepLines
 pub mod SweepTicks
+pub mod SweepsKept
 pub mod UnplacedKept

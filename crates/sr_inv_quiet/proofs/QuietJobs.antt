@@ -9,23 +9,22 @@ use Rattle.sr_inv_facts.proofs.Lists.{all_filtered, all_in, all_more, all_then, 
 use Rattle.sr_inv_facts.proofs.Printing.{prints, stage_prints, tells}
 use Rattle.sr_inv_facts.proofs.Taking.{TakesBook, takes}
 use Rattle.sr_inv_facts.specs.InJobs.{JobHolds, book_taking, job_taking, seen}
-use Rattle.sr_inv_facts.specs.InSweeps.{EntryQuiet, QuietAre, is_fresh, is_live_taking, rounds}
+use Rattle.sr_inv_facts.specs.InSweeps.{EntryQuiet, QuietAre, is_fresh, is_live_taking, is_unsettled, last_moved, rounds, since}
 use Rattle.sr_inv_facts.specs.Invariant.{Invariant}
 use Rattle.sr_inv_facts.specs.Readings.{In}
 use Rattle.sr_inv_matching.proofs.Members.{member_other}
 use Rattle.sr_inv_quiet.proofs.QuietTurns.{Carries, IsCalm, IsOffSweep, NoSweep, carries_calm, carries_silent, entry_turns, goes_none, none_quiet, off_none, rounds_none}
 use Rattle.sr_inv_quiet.proofs.SweepTicks.{from_drawn}
 use Rattle.sr_inv_sweeps.proofs.ClosingJobs.{AtOp}
-use Rattle.sr_law.specs.Retire.{uses_between, uses_entry}
+use Rattle.sr_law.specs.Retire.{last_placed, uses_between, uses_entry}
 use Rattle.sr_law.specs.Taken.{taken}
-use Rattle.sr_law.specs.Ticks.{is_controller}
+use Rattle.sr_law.specs.Ticks.{is_controller, out_of}
 use Rattle.sr_law.specs.declared.line.Line.{Line}
 use Rattle.sr_law.specs.declared.verdict.Verdict.{Verdict}
 use Rattle.sr_machine.proofs.Following.{goes}
 use Rattle.sr_machine.specs.Core.{Core, printed}
 use Rattle.sr_machine.specs.Deciding.{is_withdrawn, version_for}
 use Rattle.sr_machine.specs.Draws.{answer_line, draw_line, phase_line}
-use Rattle.sr_machine.specs.Goes.{placed}
 use Rattle.sr_machine.specs.Jobs.{book_next, job_next, judged_book, sweeps_next}
 use Rattle.sr_machine.specs.Keeping.{AfterJob, AfterStage}
 use Rattle.sr_machine.specs.Ops.{op_answer, op_name}
@@ -43,10 +42,9 @@ use Rattle.sr_machine.specs.declared.stage.Stage.{Stage}
 use Rattle.sr_machine.specs.declared.why.Why.{Why}
 use Rattle.sr_shadow.specs.Book.{is_registered, with_taken}
 use Rattle.sr_shadow.specs.Entry.{closed, fresh, is_of, left_other, settled}
-use Rattle.sr_shadow.specs.Plan.{moved}
 use Rattle.sr_shadow.specs.declared.book.Book.{Book}
 use Rattle.sr_shadow.specs.declared.entry.Entry.{Entry}
-use Rattle.std.proofs.Common.{Bool, List, None, Option, Some, [], ap, arith, false, if◌then◌else◌, inl, inr, nat_le, not, option_to_list, refl, slice_get, subst, sym, true, true≢false, ℕ, ◌&&◌, ◌++◌, ◌<◌, ◌||◌, ◌∙◌, ◌∷◌, ◌≡◌, ◌⊎◌}
+use Rattle.std.proofs.Common.{Bool, List, None, Option, Some, [], ap, arith, false, if◌then◌else◌, inl, inr, max, nat_le, not, option_to_list, refl, slice_get, subst, sym, true, true≢false, unwrap_or, ℕ, ◌&&◌, ◌++◌, ◌<◌, ◌||◌, ◌∙◌, ◌∷◌, ◌≡◌, ◌≤◌, ◌⊎◌}
 use Rattle.std.proofs.lemmas.Bool.Decides.{nat_tests}
 use Rattle.std.proofs.lemmas.Option.{same_Some}
 use Rattle.std.specs.List.{AllByRecursion, list_any}
@@ -62,10 +60,20 @@ use Rattle.sr_machine.specs.declared.name.Name.TheVariants as name
 use Rattle.sr_law.specs.declared.line.Line.TheVariants as line
 use Rattle.sr_inv_facts.proofs.Taking as takes_book
 
--- the line of a job tells nothing of the entry's place, or the entry has no quiet sweep
-pub record IsTold (l : Line) (before : List Line) (e : Entry) : Type 0 where
+-- since the line the entry stands where it stands, and no sweep went by it yet
+pub record IsNewly (l : Line) (before : List Line) (e : Entry) : Type 0 where
+  pub fresh_so : e.quiet ≡ None
+  pub late : out_of l ≤ since (l ∷ before) e.key
+
+-- or the line tells nothing of where it stands
+pub record IsStill (j : Job) (l : Line) (before : List Line) (e : Entry) : Type 0 where
+  pub calm : IsCalm l before e.key
+  pub settled_so : is_unsettled j e.key ≡ false
+
+-- the line of a job does one of these
+pub record IsTold (j : Job) (l : Line) (before : List Line) (e : Entry) : Type 0 where
   pub own : is_controller l ≡ true
-  pub calm : (e.quiet ≡ None) ⊎ IsCalm l before e.key
+  pub told : IsNewly l before e ⊎ IsStill j l before e
 
 module _ (s : Core) (i : Invariant s) where
   abbrev es : List Entry
@@ -119,14 +127,16 @@ module _ (s : Core) (i : Invariant s) where
   -- ---- what a job tells
 
   module _ (x : ℕ) where
-    calm_line : (l m : Line) (e : Entry) → l ≡ m → is_controller l ≡ true → IsCalm l (printed s) e.key → IsTold m (printed s) e
-    calm_line l m e q own c = subst (λ z. IsTold z (printed s) e) q (record { own = own; calm = inr c })
+    calm_line : (j : Job) (l m : Line) (e : Entry) → l ≡ m → is_controller l ≡ true → IsCalm l (printed s) e.key → is_unsettled j e.key ≡ false
+        → IsTold j m (printed s) e
+    calm_line j l m e q own c u =
+        subst (λ z. IsTold j z (printed s) e) q (record { own = own; told = inr (record { calm = c; settled_so = u }) })
 
-    phase_told : (u : PoolUpdate) (p : Phase) (l : Line) (e : Entry) → phase_line u x p ≡ l → IsTold l (printed s) e
-    phase_told u Steady l e q = calm_line (line.Finished x u.vip) l e q refl (record { placed = refl; moved = refl; sweep = refl })
-    phase_told u Recording l e q = calm_line (line.Recorded x u.vip) l e q refl (record { placed = refl; moved = refl; sweep = refl })
-    phase_told u Holding l e q = calm_line (line.Hold x u.vip) l e q refl (record { placed = refl; moved = refl; sweep = refl })
-    phase_told u Transit l e q = calm_line (line.Switched x u.vip u.pool) l e q refl (record { placed = refl; moved = refl; sweep = refl })
+    phase_told : (u : PoolUpdate) (p : Phase) (l : Line) (e : Entry) → phase_line u x p ≡ l → IsTold (job.Draw (draw.Comes u p)) l (printed s) e
+    phase_told u Steady l e q = calm_line (job.Draw (draw.Comes u Steady)) (line.Finished x u.vip) l e q refl (record { placed = refl; moved = refl; sweep = refl }) refl
+    phase_told u Recording l e q = calm_line (job.Draw (draw.Comes u Recording)) (line.Recorded x u.vip) l e q refl (record { placed = refl; moved = refl; sweep = refl }) refl
+    phase_told u Holding l e q = calm_line (job.Draw (draw.Comes u Holding)) (line.Hold x u.vip) l e q refl (record { placed = refl; moved = refl; sweep = refl }) refl
+    phase_told u Transit l e q = calm_line (job.Draw (draw.Comes u Transit)) (line.Switched x u.vip u.pool) l e q refl (record { placed = refl; moved = refl; sweep = refl }) refl
 
     -- an entry whose place is given up wasn't live there
     withdrawn_moves : (key : KeyView) (place : Place) (r : Option Reply) → s.controller.job ≡ job.Draw (draw.Cleared key place (why.Withdrawn r))
@@ -136,8 +146,16 @@ module _ (s : Core) (i : Invariant s) where
         ∙ (ap (λ j. option_or (job_taking j place) (book_taking es place)) q
         ∙ ap (λ b. option_or (if b then Some (record { key = key; placed = false }) else None) (book_taking es place)) (same_place-self place)))
 
+    -- and one that has moved was
+    source_moves : (key : KeyView) (place : Place) → s.controller.job ≡ job.Draw (draw.Cleared key place why.Source)
+        → is_live_taking (taken (printed s) place) ≡ true
+    source_moves key place q =
+        ap is_live_taking (i.jobs.holds.places place
+        ∙ (ap (λ j. option_or (job_taking j place) (book_taking es place)) q
+        ∙ ap (λ b. option_or (if b then Some (record { key = key; placed = true }) else None) (book_taking es place)) (same_place-self place)))
+
     cleared_told : (key : KeyView) (place : Place) (w : Why) → s.controller.job ≡ job.Draw (draw.Cleared key place w) → (e : Entry) → In e es
-        → IsTold (line.Cleared x key place) (printed s) e
+        → IsTold (job.Draw (draw.Cleared key place w)) (line.Cleared x key place) (printed s) e
     cleared_told key place w q e m = at w q (same_key key e.key) refl
       where
         apart : same_key key e.key ≡ false → IsCalm (line.Cleared x key place) (printed s) e.key
@@ -147,55 +165,84 @@ module _ (s : Core) (i : Invariant s) where
           sweep = refl;
         }
 
+        later : (a b : ℕ) (z : Bool) → z ≡ true → x ≤ max a (unwrap_or (if z then Some x else None) b)
+        later a b true f = omega arith
+        later a b false f = cc
+
         and_none : (b : Bool) → (b && false) ≡ false
         and_none true = refl
         and_none false = refl
 
-        at : (w : Why) → s.controller.job ≡ job.Draw (draw.Cleared key place w) → (b : Bool) → same_key key e.key ≡ b → IsTold (line.Cleared x key place) (printed s) e
-        at why.Source q true t = record { own = refl; calm = inl (was_fresh (job.Draw (draw.Cleared key place why.Source)) q e m t) }
+        at : (w : Why) → s.controller.job ≡ job.Draw (draw.Cleared key place w) → (b : Bool) → same_key key e.key ≡ b
+            → IsTold (job.Draw (draw.Cleared key place w)) (line.Cleared x key place) (printed s) e
+        at why.Source q true t = record {
+          own = refl;
+          told = inl (record {
+            fresh_so = was_fresh (job.Draw (draw.Cleared key place why.Source)) q e m t;
+            late = later (unwrap_or (last_placed (printed s) e.key) 0) (last_moved (printed s) e.key) (same_key key e.key && is_live_taking (taken (printed s) place))
+                (cc (t, source_moves key place q));
+          });
+        }
         at (why.Retired version) q true t =
             let none : is_registered key es ≡ false = (subst (JobHolds s.config (seen s.controller) (printed s)) q i.jobs.holds.stands).1 in
             absurd (true≢false (sym t ∙ member_other key es e none m))
         at (why.Withdrawn r) q b t = record {
           own = refl;
-          calm = inr (record {
-            placed = refl;
-            moved = ap (λ z. if same_key key e.key && z then Some x else None) (withdrawn_moves key place r q) ∙ ap (λ z. if z then Some x else None) (and_none (same_key key e.key));
-            sweep = refl;
+          told = inr (record {
+            calm = record {
+              placed = refl;
+              moved = ap (λ z. if same_key key e.key && z then Some x else None) (withdrawn_moves key place r q) ∙ ap (λ z. if z then Some x else None) (and_none (same_key key e.key));
+              sweep = refl;
+            };
+            settled_so = refl;
           });
         }
-        at why.Source q false t = record { own = refl; calm = inr (apart t) }
-        at (why.Retired version) q false t = record { own = refl; calm = inr (apart t) }
+        at why.Source q false t = record { own = refl; told = inr (record { calm = apart t; settled_so = t }) }
+        at (why.Retired version) q false t = record { own = refl; told = inr (record { calm = apart t; settled_so = refl }) }
 
-    placed_told_so : (p : Put) → s.controller.job ≡ job.Draw (draw.Placed p) → (e : Entry) → In e es → IsTold (line.Placed x p.key p.place) (printed s) e
+    placed_told_so : (p : Put) → s.controller.job ≡ job.Draw (draw.Placed p) → (e : Entry) → In e es
+        → IsTold (job.Draw (draw.Placed p)) (line.Placed x p.key p.place) (printed s) e
     placed_told_so p q e m = at (same_key p.key e.key) refl
       where
-        at : (b : Bool) → same_key p.key e.key ≡ b → IsTold (line.Placed x p.key p.place) (printed s) e
-        at true t = record { own = refl; calm = inl (was_fresh (job.Draw (draw.Placed p)) q e m t) }
-        at false t = record { own = refl; calm = inr (record { placed = ap (λ b. if b then Some x else None) t; moved = refl; sweep = refl }) }
+        later : (o : Option ℕ) (b : ℕ) (z : Bool) → z ≡ true → x ≤ max (unwrap_or (option_or (if z then Some x else None) o) 0) b
+        later o b true f = omega arith
+        later o b false f = cc
+
+        at : (b : Bool) → same_key p.key e.key ≡ b → IsTold (job.Draw (draw.Placed p)) (line.Placed x p.key p.place) (printed s) e
+        at true t = record {
+          own = refl;
+          told = inl (record {
+            fresh_so = was_fresh (job.Draw (draw.Placed p)) q e m t;
+            late = later (last_placed (printed s) e.key) (last_moved (printed s) e.key) (same_key p.key e.key) t;
+          });
+        }
+        at false t = record {
+          own = refl;
+          told = inr (record { calm = record { placed = ap (λ b. if b then Some x else None) t; moved = refl; sweep = refl }; settled_so = t });
+        }
 
     pub draw_told : (d : Draw) → s.controller.job ≡ job.Draw d → IsOffSweep (job.Draw d) → (l : Line) → draw_line s.config s.controller d x ≡ Some l
-        → (e : Entry) → In e es → IsTold l (printed s) e
+        → (e : Entry) → In e es → IsTold (job.Draw d) l (printed s) e
     draw_told (draw.Grace w) q off l g e m = cc
     draw_told (draw.From ms) q off l g e m = absurd off
     draw_told (draw.Swept from ms) q off l g e m = absurd off
     draw_told (draw.Comes u p) q off l g e m = phase_told u p l e (same_Some (phase_line u x p) l g)
     draw_told (draw.Cleared key place w) q off l g e m =
-        subst (λ z. IsTold z (printed s) e) (same_Some (line.Cleared x key place) l g) (cleared_told key place w q e m)
+        subst (λ z. IsTold (job.Draw (draw.Cleared key place w)) z (printed s) e) (same_Some (line.Cleared x key place) l g) (cleared_told key place w q e m)
     draw_told (draw.Placed p) q off l g e m =
-        subst (λ z. IsTold z (printed s) e) (same_Some (line.Placed x p.key p.place) l g) (placed_told_so p q e m)
+        subst (λ z. IsTold (job.Draw (draw.Placed p)) z (printed s) e) (same_Some (line.Placed x p.key p.place) l g) (placed_told_so p q e m)
     draw_told (draw.Refused n) q off l g e m =
-        calm_line (line.Refused x n) l e (same_Some (line.Refused x n) l g) refl (record { placed = refl; moved = refl; sweep = refl })
+        calm_line (job.Draw (draw.Refused n)) (line.Refused x n) l e (same_Some (line.Refused x n) l g) refl (record { placed = refl; moved = refl; sweep = refl }) refl
     draw_told (draw.TakenDown n) q off l g e m =
-        calm_line (line.TakenDown x n) l e (same_Some (line.TakenDown x n) l g) refl (record { placed = refl; moved = refl; sweep = refl })
+        calm_line (job.Draw (draw.TakenDown n)) (line.TakenDown x n) l e (same_Some (line.TakenDown x n) l g) refl (record { placed = refl; moved = refl; sweep = refl }) refl
     draw_told (draw.Given u) q off l g e m =
-        calm_line (line.Given x u.vip u.given u.pool) l e (same_Some (line.Given x u.vip u.given u.pool) l g) refl (record { placed = refl; moved = refl; sweep = refl })
+        calm_line (job.Draw (draw.Given u)) (line.Given x u.vip u.given u.pool) l e (same_Some (line.Given x u.vip u.given u.pool) l g) refl (record { placed = refl; moved = refl; sweep = refl }) refl
     draw_told (draw.Reserved p) q off l g e m =
-        calm_line (line.Reserved x p.key p.place) l e (same_Some (line.Reserved x p.key p.place) l g) refl (record { placed = refl; moved = refl; sweep = refl })
+        calm_line (job.Draw (draw.Reserved p)) (line.Reserved x p.key p.place) l e (same_Some (line.Reserved x p.key p.place) l g) refl (record { placed = refl; moved = refl; sweep = refl }) refl
     draw_told (draw.Retired key place n) q off l g e m =
-        calm_line (line.Retired x key) l e (same_Some (line.Retired x key) l g) refl (record { placed = refl; moved = refl; sweep = refl })
+        calm_line (job.Draw (draw.Retired key place n)) (line.Retired x key) l e (same_Some (line.Retired x key) l g) refl (record { placed = refl; moved = refl; sweep = refl }) refl
     draw_told (draw.Answer r) q off l g e m =
-        calm_line (answer_line s.config s.controller r x) l e (same_Some (answer_line s.config s.controller r x) l g) refl (record { placed = refl; moved = refl; sweep = refl })
+        calm_line (job.Draw (draw.Answer r)) (answer_line s.config s.controller r x) l e (same_Some (answer_line s.config s.controller r x) l g) refl (record { placed = refl; moved = refl; sweep = refl }) refl
 
   -- ---- a job that is no part of a sweep
 
@@ -220,17 +267,17 @@ module _ (s : Core) (i : Invariant s) where
           entry_turns (printed s) (printed s) s.controller.sweeps s.controller.sweeps j (job_next s.config s.controller j x) e (same j e off)
           (carries_silent (printed s) s.controller.sweeps j (job_next s.config s.controller j x) ((now j off).running ∙ sym (off_none j off).running) e.key (rounds s.controller.sweeps j e.taken)) (before j q e m)
 
-      line : (d : Draw) → s.controller.job ≡ job.Draw d → IsOffSweep (job.Draw d) → (e : Entry) → In e es → (l : Line) → IsTold l (printed s) e
+      line : (d : Draw) → s.controller.job ≡ job.Draw d → IsOffSweep (job.Draw d) → (e : Entry) → In e es → (l : Line) → IsTold (job.Draw d) l (printed s) e
           → EntryQuiet (l ∷ printed s) s.controller.sweeps (job_next s.config s.controller (job.Draw d) x) e
-      line d q off e m l t = two t.calm
+      line d q off e m l t = two t.told
         where
-          two : (e.quiet ≡ None) ⊎ IsCalm l (printed s) e.key → EntryQuiet (l ∷ printed s) s.controller.sweeps (job_next s.config s.controller (job.Draw d) x) e
-          two (inl n) = none_quiet (l ∷ printed s) s.controller.sweeps (job_next s.config s.controller (job.Draw d) x) e n
+          two : IsNewly l (printed s) e ⊎ IsStill (job.Draw d) l (printed s) e → EntryQuiet (l ∷ printed s) s.controller.sweeps (job_next s.config s.controller (job.Draw d) x) e
+          two (inl n) = none_quiet (l ∷ printed s) s.controller.sweeps (job_next s.config s.controller (job.Draw d) x) e n.fresh_so
           two (inr c) =
               let j = job.Draw d in
               let m2 = job_next s.config s.controller j x in
               entry_turns (printed s) (l ∷ printed s) s.controller.sweeps s.controller.sweeps j m2 e (same j e off)
-              (carries_calm (printed s) l s.controller.sweeps j m2 t.own ((now j off).running ∙ sym (off_none j off).running) e.key (rounds s.controller.sweeps j e.taken) c) (before j q e m)
+              (carries_calm (printed s) l s.controller.sweeps j m2 t.own ((now j off).running ∙ sym (off_none j off).running) e.key (rounds s.controller.sweeps j e.taken) c.calm) (before j q e m)
 
       at : (j : Job) → s.controller.job ≡ j → IsOffSweep j → (e : Entry) → In e es
           → EntryQuiet (tells s.config s.controller j x ++ printed s) s.controller.sweeps (job_next s.config s.controller j x) e

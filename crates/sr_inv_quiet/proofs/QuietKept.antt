@@ -15,9 +15,8 @@ use Rattle.sr_inv_quiet.proofs.QuietJobs.{quiet_off, quiet_stage}
 use Rattle.sr_inv_quiet.proofs.QuietTurns.{Carries, NoSweep, carries_silent, entry_turns, none_quiet}
 use Rattle.sr_law.specs.Retire.{numbered_sweep}
 use Rattle.sr_machine.specs.Begins.{Begins}
-use Rattle.sr_machine.specs.Core.{Core, enters, printed}
+use Rattle.sr_machine.specs.Core.{Core, printed}
 use Rattle.sr_machine.specs.Draws.{sweeping}
-use Rattle.sr_machine.specs.Goes.{placed}
 use Rattle.sr_machine.specs.Jobs.{job_op}
 use Rattle.sr_machine.specs.Keeping.{AfterJob, Keeps}
 use Rattle.sr_machine.specs.Opening.{opening_controller}
@@ -27,7 +26,6 @@ use Rattle.sr_machine.specs.declared.draw.Draw.{Draw}
 use Rattle.sr_machine.specs.declared.job.Job.{Job}
 use Rattle.sr_shadow.specs.Book.{with_changed}
 use Rattle.sr_shadow.specs.Entry.{swept}
-use Rattle.sr_shadow.specs.Plan.{moved}
 use Rattle.sr_shadow.specs.declared.entry.Entry.{Entry}
 use Rattle.std.proofs.Common.{Bool, List, None, Option, Some, ap, arith, false, if◌then◌else◌, inl, inr, is_some, option_map, refl, subst, sym, true, ℕ, ◌+◌, ◌<◌, ◌==◌, ◌∙◌, ◌∷◌, ◌≡◌, ◌≢◌, ◌≤◌, ◌⊎◌}
 use Rattle.std.proofs.lemmas.Bool.{cases_eq}
@@ -40,6 +38,22 @@ use Rattle.sr_machine.specs.declared.stage.Stage.TheVariants as stage
 use Rattle.sr_machine.specs.declared.name.Name.TheVariants as name
 use Rattle.sr_law.specs.declared.line.Line.TheVariants as line
 use Rattle.sr_machine.specs.Begins as begin
+
+-- nothing that a controller begins is under way as a sweep yet
+pub begins_none : (s : Core) (start : Start) → Begins s.config s.controller start → NoSweep start.job
+begins_none s start (begin.refuses g rest r e) = record { running = refl; past = λ n. refl }
+begins_none s start (begin.takes_down o rest e d) = record { running = refl; past = λ n. refl }
+begins_none s start (begin.holds u e p w) = record { running = refl; past = λ n. refl }
+begins_none s start (begin.finishes u e p w) = record { running = refl; past = λ n. refl }
+begins_none s start (begin.changes g rest number u e d f) = record { running = refl; past = λ n. refl }
+begins_none s start (begin.answers o rest e r f) = record { running = refl; past = λ n. refl }
+begins_none s start (begin.places_held o rest p r f g) = record { running = refl; past = λ n. refl }
+begins_none s start (begin.has_no_place o rest r f g) = record { running = refl; past = λ n. refl }
+begins_none s start (begin.places e p r f g) = record { running = refl; past = λ n. refl }
+begins_none s start (begin.retires e place r f) = record { running = refl; past = λ n. refl }
+begins_none s start (begin.sweeps ms r f) = record { running = refl; past = λ n. refl }
+begins_none s start (begin.releases vip m r) = record { running = refl; past = λ n. refl }
+begins_none s start (begin.looks r) = record { running = refl; past = λ n. refl }
 
 module _ (s : Core) (i : Invariant s) where
   abbrev es : List Entry
@@ -142,23 +156,8 @@ module _ (s : Core) (i : Invariant s) where
       → AllByRecursion (EntryQuiet (printed s) s.controller.sweeps start.job) es
   quiet_begins free start b =
       all_to_in _ es (λ e m. entry_turns (printed s) (printed s) s.controller.sweeps s.controller.sweeps job.Free start.job e
-      (ap (λ b. if b then s.controller.sweeps + 1 else s.controller.sweeps) ((none start b).past e.taken))
-      (carries_silent (printed s) s.controller.sweeps job.Free start.job (none start b).running e.key s.controller.sweeps) (before job.Free free e m))
-    where
-      none : (start : Start) → Begins s.config s.controller start → NoSweep start.job
-      none start (begin.refuses g rest r e) = record { running = refl; past = λ n. refl }
-      none start (begin.takes_down o rest e d) = record { running = refl; past = λ n. refl }
-      none start (begin.holds u e p w) = record { running = refl; past = λ n. refl }
-      none start (begin.finishes u e p w) = record { running = refl; past = λ n. refl }
-      none start (begin.changes g rest number u e d f) = record { running = refl; past = λ n. refl }
-      none start (begin.answers o rest e r f) = record { running = refl; past = λ n. refl }
-      none start (begin.places_held o rest p r f g) = record { running = refl; past = λ n. refl }
-      none start (begin.has_no_place o rest r f g) = record { running = refl; past = λ n. refl }
-      none start (begin.places e p r f g) = record { running = refl; past = λ n. refl }
-      none start (begin.retires e place r f) = record { running = refl; past = λ n. refl }
-      none start (begin.sweeps ms r f) = record { running = refl; past = λ n. refl }
-      none start (begin.releases vip m r) = record { running = refl; past = λ n. refl }
-      none start (begin.looks r) = record { running = refl; past = λ n. refl }
+      (ap (λ b. if b then s.controller.sweeps + 1 else s.controller.sweeps) ((begins_none s start b).past e.taken))
+      (carries_silent (printed s) s.controller.sweeps job.Free start.job (begins_none s start b).running e.key s.controller.sweeps) (before job.Free free e m))
 
 pub quiet_keep : Keeps IsPacket Invariant QuietAre
 quiet_keep = record {

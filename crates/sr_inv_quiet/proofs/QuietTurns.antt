@@ -1,6 +1,5 @@
 -- What is said of a quiet entry goes on, where the lines tell nothing new of its key.
 use Rattle.sr_base.specs.Key.{KeyView}
-use Rattle.sr_inv_facts.proofs.Pipes.{idle}
 use Rattle.sr_inv_facts.proofs.Plain.{OfPlain, plain_cleared, plain_passed, plain_phase, plain_vip, plain_waited}
 use Rattle.sr_inv_facts.specs.InSweeps.{EntryQuiet, QuietHolds, is_past, last_moved, moved_by, rounds, running_from, since, sweep_from, sweep_to}
 use Rattle.sr_inv_facts.specs.InTicks.{same}
@@ -12,7 +11,7 @@ use Rattle.sr_machine.specs.Goes.{Goes, comes}
 use Rattle.sr_machine.specs.declared.controller_view.ControllerView.{ControllerView}
 use Rattle.sr_machine.specs.declared.job.Job.{Job}
 use Rattle.sr_shadow.specs.declared.entry.Entry.{Entry}
-use Rattle.std.proofs.Common.{IfSome, List, None, Option, Some, ap, arith, false, filter, if◌then◌else◌, max, option_map, refl, subst, sym, true, unwrap_or, ℕ, ◌+◌, ◌-◌, ◌<◌, ◌==◌, ◌||◌, ◌∙◌, ◌∷◌, ◌≡◌, ◌≤◌}
+use Rattle.std.proofs.Common.{IfSome, List, None, Option, Some, ap, arith, false, if◌then◌else◌, max, option_map, refl, subst, sym, true, unwrap_or, ℕ, ◌+◌, ◌-◌, ◌<◌, ◌==◌, ◌||◌, ◌∙◌, ◌∷◌, ◌≡◌, ◌≤◌}
 use Rattle.std.specs.List.{list_any}
 use Rattle.std.specs.Option.{option_or}
 use Rattle.sr_machine.specs.declared.draw.Draw.TheVariants as draw

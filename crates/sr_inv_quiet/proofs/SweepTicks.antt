@@ -21,7 +21,6 @@ use Rattle.sr_law.specs.Ticks.{is_controller, out_of, start_of}
 use Rattle.sr_law.specs.declared.line.Line.{Line}
 use Rattle.sr_law.specs.declared.sweep.Sweep.{Sweep}
 use Rattle.sr_machine.specs.Core.{Core, printed}
-use Rattle.sr_machine.specs.Goes.{placed}
 use Rattle.sr_machine.specs.declared.job.Job.{Job}
 use Rattle.sr_shadow.specs.Book.{holder_of}
 use Rattle.sr_shadow.specs.declared.entry.Entry.{Entry}

@@ -12,7 +12,7 @@ use Rattle.sr_inv_facts.specs.Invariant.{Invariant}
 use Rattle.sr_inv_facts.specs.Laws.{OpensWith}
 use Rattle.sr_inv_facts.specs.Readings.{In}
 use Rattle.sr_inv_matching.proofs.Members.{in_own}
-use Rattle.sr_machine.specs.Core.{Core, enters, printed}
+use Rattle.sr_machine.specs.Core.{Core, printed}
 use Rattle.sr_machine.specs.Deciding.{is_withdrawn, version_for}
 use Rattle.sr_machine.specs.Jobs.{book_next, job_op, judged_book}
 use Rattle.sr_machine.specs.Keeping.{AfterJob, AfterStage, Keeps}

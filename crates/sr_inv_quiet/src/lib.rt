@@ -1,6 +1,6 @@
-//! Every event keeps that quiet connections are quiet by the lines: parts of the family `InSweeps` of the invariant.
+//! Every event keeps that a connection that was quiet for some sweeps was quiet by the lines: the family `InSweeps` of the invariant, whole.
 #![tactic(auto)]
 
 mod laws;
 
-pub use laws::{quiet_are_kept, unplaced_are_kept};
+pub use laws::sweeps_are_kept;
