@@ -253,7 +253,7 @@ module _ (s : Core) (i : Invariant s) where
     of_transit n (inr (t, e)) r = e
 
     -- the word before and after a store, and what is said of a report's version by them
-    stored_of : (y : Phase) → s.controller.job ≡ job.Store (store.Vip u y) → (n : ℕ) → IsOfWord (vip_at vips u.vip) n
+    pub stored_of : (y : Phase) → s.controller.job ≡ job.Store (store.Vip u y) → (n : ℕ) → IsOfWord (vip_at vips u.vip) n
         → (y ≡ Steady → n ≢ u.replaced)
         → IsOfWord (phase_word u y) n
     stored_of Steady q n h r =
@@ -266,7 +266,7 @@ module _ (s : Core) (i : Invariant s) where
     stored_of Transit q n h r =
         let a = subst (JobAt s.config update vips) q i.update.update.phase in inl (of_holding n (subst (λ z. IsOfWord z n) a.1 h))
 
-    stored_key : (y : Phase) → s.controller.job ≡ job.Store (store.Vip u y) → (n : ℕ) (marked : Bool) → IsOfWord (vip_at vips u.vip) n
+    pub stored_key : (y : Phase) → s.controller.job ≡ job.Store (store.Vip u y) → (n : ℕ) (marked : Bool) → IsOfWord (vip_at vips u.vip) n
         → ((p : Phase) → phase_at vips u ≡ p → KeyMarked u p false false n marked)
         → KeyMarked u y (is_settling Recording (job.Draw (vip_draw u y))) false n marked
     stored_key Steady q n marked h k = tt

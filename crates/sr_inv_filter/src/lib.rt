@@ -3,4 +3,6 @@
 
 mod laws;
 
-pub use laws::{drained_reports_are_kept, learners_are_kept, ring_reports_are_kept};
+pub use laws::{
+    drained_reports_are_kept, learners_are_kept, pending_keys_are_kept, ring_reports_are_kept,
+};
