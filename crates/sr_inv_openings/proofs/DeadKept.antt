@@ -25,11 +25,12 @@ use Rattle.sr_inv_facts.specs.InWords.{is_downing}
 use Rattle.sr_inv_facts.specs.Invariant.{Invariant}
 use Rattle.sr_inv_facts.specs.Laws.{OpensWith}
 use Rattle.sr_inv_facts.specs.Readings.{EachLearn, IfLearn, bit_words, ring_words}
+use Rattle.sr_inv_matching.proofs.Members.{registered_found}
 use Rattle.sr_inv_openings.proofs.LearnedKept.{learn_then}
-use Rattle.sr_inv_openings.proofs.Registering.{registered_is, take_registered}
+use Rattle.sr_inv_openings.proofs.Parts.{DeadAreSilent}
+use Rattle.sr_inv_openings.proofs.Registering.{take_registered}
 use Rattle.sr_inv_openings.proofs.RingSteps.{AtOp, pushed_from, pushed_ring, tells_learn}
 use Rattle.sr_inv_openings.proofs.Speaking.{is_opener_so, judged_unlearned, judged_unsent}
-use Rattle.sr_inv_openings.proofs.Parts.{DeadAreSilent}
 use Rattle.sr_law.specs.Pools.{picked, server_of}
 use Rattle.sr_law.specs.declared.verdict.HeldBy.{HeldBy}
 use Rattle.sr_law.specs.declared.verdict.Verdict.{Verdict}
@@ -457,7 +458,7 @@ module _ (s : Core) (i : Invariant s) where
       by (aim.Held h) m = λ none.
           let r = take_registered l s.controller.numbers (ended_by (job.Drain pipe count (wait.Live p))) x s.controller.book _
           (takes s.config s.controller (ended_by (job.Drain pipe count (wait.Live p))) pipe x).book p.key live.stands.0.version (live.stands.0, live.stands.1, refl) in
-          absurd (true≢false (sym (ap (λ z. is_registered z (book_next s.config s.controller (job.Drain pipe count (wait.Live p)) x).entries) (sym m.1) ∙ registered_is p.key _ r.0 r.1) ∙ none))
+          absurd (true≢false (sym (ap (λ z. is_registered z (book_next s.config s.controller (job.Drain pipe count (wait.Live p)) x).entries) (sym m.1) ∙ registered_found p.key _ r.0 r.1) ∙ none))
   dead_waited pipe count (wait.Judge p) x e ring = tt
   dead_waited pipe count (wait.Retire key) x e ring = tt
   dead_waited pipe count (wait.Comes u Steady) x e ring = tt
@@ -485,7 +486,7 @@ module _ (s : Core) (i : Invariant s) where
 
   dead_begins : (start : Start) → Begins s.config s.controller start
       → OnAnswer start.job (λ r. IfUnregistered es r (NothingLearned l (ring_words s.words) s.pipes r.held.key))
-  dead_begins start (begin.answers h rest w d f) = λ none. absurd (true≢false (sym (registered_is h.key es w f) ∙ none))
+  dead_begins start (begin.answers h rest w d f) = λ none. absurd (true≢false (sym (registered_found h.key es w f) ∙ none))
   dead_begins start (begin.has_no_place h rest d f g) = λ none. tt
   dead_begins start b = tt
 

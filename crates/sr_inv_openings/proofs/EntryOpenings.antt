@@ -23,11 +23,12 @@ use Rattle.sr_inv_facts.specs.Invariant.{Invariant}
 use Rattle.sr_inv_facts.specs.Laws.{OpensWith}
 use Rattle.sr_inv_facts.specs.OnTrack.{IsKnown}
 use Rattle.sr_inv_facts.specs.Readings.{IfLearn, In, ring_words}
-use Rattle.sr_inv_openings.proofs.EntryTurns.{Alike, IsOffEnd, alike_self, all_passing, entry_is, entry_turns, goes_awaited}
+use Rattle.sr_inv_matching.proofs.Members.{in_own}
+use Rattle.sr_inv_openings.proofs.EntryTurns.{Alike, IsOffEnd, alike_self, all_passing, entry_turns, goes_awaited}
 use Rattle.sr_inv_openings.proofs.LearnedKept.{IsOffOut, leaving_stays}
 use Rattle.sr_inv_openings.proofs.OpeningSteps.{answer_opens, given_named, leaving_opens, opens_quiet, or_none, packet_opens}
-use Rattle.sr_inv_openings.proofs.Speaking.{judged_unlearned, judged_unsent, leaves, sent_known, sent_pool}
 use Rattle.sr_inv_openings.proofs.Parts.{EntriesOpened}
+use Rattle.sr_inv_openings.proofs.Speaking.{judged_unlearned, judged_unsent, leaves, sent_known, sent_pool}
 use Rattle.sr_law.specs.Opening.{opened, opened_by, opening}
 use Rattle.sr_law.specs.declared.line.Line.{Line}
 use Rattle.sr_law.specs.declared.opening.Opening.{Opening}
@@ -107,7 +108,7 @@ module _ (s : Core) (i : Invariant s) where
   opened_now e m = all_in Opened es e i.openings.openings.entry m
 
   known_entry : (e : Entry) → In e es → IsKnown l (ring_words s.words) es e.key e.version
-  known_entry e m = inl (e, entry_is es e i.shape.book.distinct m, refl)
+  known_entry e m = inl (e, in_own es e i.shape.book.distinct m, refl)
 
   -- ---- a pipe's step
 
@@ -320,7 +321,7 @@ module _ (s : Core) (i : Invariant s) where
 
       version : r.version ≡ Some e.version
       version =
-          subst (λ o. AnswerNames s.config (seen s.controller) r o r.version) (ap (λ z. entry_for z es) own ∙ entry_is es e i.shape.book.distinct m) answer.names
+          subst (λ o. AnswerNames s.config (seen s.controller) r o r.version) (ap (λ z. entry_for z es) own ∙ in_own es e i.shape.book.distinct m) answer.names
 
       verdict_is : (b : Bool) → is_down s.controller.down (server_for s.config s.controller.named r.held.key e.version) ≡ b → b ≡ false
           → opened x (verdict_by b (server_for s.config s.controller.named r.held.key e.version) e.version (named_at s.controller.named r.held.key.vip e.version)) ≡ None → ⊥
@@ -344,7 +345,7 @@ module _ (s : Core) (i : Invariant s) where
       new e m None g (inr h) = absurd (answer_told r x q e m (now_awaited (job.Draw (draw.Answer r)) q e h).awaited h.up g)
       new e m (Some o) g h =
           let a = answer_opens s i r q x e.key o g in
-          let is : a.entry ≡ e = same_Some a.entry e (sym a.found ∙ entry_is es e i.shape.book.distinct m) in
+          let is : a.entry ≡ e = same_Some a.entry e (sym a.found ∙ in_own es e i.shape.book.distinct m) in
           record { version = a.version ∙ ap (λ z. z.version) is; pool = a.pool ∙ ap (λ z. named_at s.controller.named e.key.vip z.version) is }
 
       at : (e : Entry) → In e es → (O : Option Opening) → opening (printed s) e.key ≡ O → Opened e

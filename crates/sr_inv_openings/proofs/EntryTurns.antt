@@ -1,11 +1,8 @@
 -- What is said of the opening of a registered key goes on, where its entry stays as it is and its opener isn't out.
-use Rattle.sr_base.proofs.Sameness.{same_key-self, same_key-true}
-use Rattle.sr_base.specs.Key.{KeyView, same_key}
+use Rattle.sr_base.specs.Key.{KeyView}
 use Rattle.sr_base.specs.declared.vip_word.VipWord.{VipWord}
 use Rattle.sr_inv_facts.specs.Flying.{SomeLeaving}
 use Rattle.sr_inv_facts.specs.InOpenings.{EntryOpened, IsAwaited, IsToBeAnswered, LivesFor}
-use Rattle.sr_inv_facts.specs.Readings.{In}
-use Rattle.sr_inv_openings.proofs.Registering.{registered_is}
 use Rattle.sr_inv_openings.proofs.Speaking.{leaves}
 use Rattle.sr_law.specs.declared.opening.Opening.{Opening}
 use Rattle.sr_machine.specs.Config.{Config}
@@ -16,9 +13,8 @@ use Rattle.sr_machine.specs.declared.controller_view.ControllerView.{ControllerV
 use Rattle.sr_machine.specs.declared.job.Job.{Job}
 use Rattle.sr_machine.specs.declared.pipe_view.PipeView.{PipeView}
 use Rattle.sr_machine.specs.declared.wait.Wait.{Wait}
-use Rattle.sr_shadow.specs.Book.{DistinctKeys, entry_for, is_registered}
 use Rattle.sr_shadow.specs.declared.entry.Entry.{Entry}
-use Rattle.std.proofs.Common.{Bool, List, None, Option, Some, [], ap, cond, false, filter, inl, inr, is_none, is_some, refl, subst, sym, true, true≢false, ℕ, ◌∙◌, ◌∷◌, ◌≡◌}
+use Rattle.std.proofs.Common.{Bool, List, None, Option, Some, [], ap, cond, false, filter, inl, inr, is_none, is_some, refl, subst, sym, true, ℕ, ◌∙◌, ◌∷◌, ◌≡◌}
 use Rattle.std.specs.List.{AllByRecursion}
 use Rattle.sr_machine.specs.declared.draw.Draw.TheVariants as draw
 use Rattle.sr_machine.specs.declared.wait.Wait.TheVariants as wait
@@ -57,18 +53,6 @@ module _ (k : Config) (vips next_vips : List VipWord) (named next_named : List (
   }
 
 -- ---- entries of a book
-
--- an entry that is in the book is the one that is found for its key
-pub entry_is : (es : List Entry) (e : Entry) → DistinctKeys es → In e es → entry_for e.key es ≡ Some e
-entry_is [] e d m = absurd m
-entry_is (x ∷ es) e d (inl q) =
-    ap (λ b. cond b (Some x) (entry_for e.key es)) (ap (λ z. same_key z.key x.key) q ∙ same_key-self x.key) ∙ ap Some (sym q)
-entry_is (x ∷ es) e d (inr m) = at (same_key e.key x.key) refl (entry_is es e d.1 m)
-  where
-    at : (b : Bool) → same_key e.key x.key ≡ b → entry_for e.key es ≡ Some e → cond b (Some x) (entry_for e.key es) ≡ Some e
-    at true q r =
-        absurd (true≢false (sym (registered_is e.key es e r) ∙ (ap (λ z. is_registered z es) (same_key-true e.key x.key q) ∙ d.0)))
-    at false q r = r
 
 -- what holds of each entry that passes a test
 pub all_passing : {X : Type 0} (P Q : X → Type 0) (test : X → Bool) → ((x : X) → test x ≡ true → P x → Q x) → (xs : List X) → AllByRecursion P xs

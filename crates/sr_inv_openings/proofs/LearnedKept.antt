@@ -20,10 +20,11 @@ use Rattle.sr_inv_facts.specs.Invariant.{Invariant}
 use Rattle.sr_inv_facts.specs.Laws.{OpensWith}
 use Rattle.sr_inv_facts.specs.OnTrack.{IsKnown}
 use Rattle.sr_inv_facts.specs.Readings.{EachLearn, IfLearn, SomeLearn, ring_words}
+use Rattle.sr_inv_matching.proofs.Members.{in_found}
 use Rattle.sr_inv_openings.proofs.OpeningSteps.{answer_opens, leaving_opens, opening_known, opens_quiet, or_none, packet_opens}
-use Rattle.sr_inv_openings.proofs.RingSteps.{AtOp, TellsLearn, left_was, pushed_from, pushed_ring, tells_learn}
-use Rattle.sr_inv_openings.proofs.Speaking.{found_in, leaving_known, placed_unlearned, sent_known}
 use Rattle.sr_inv_openings.proofs.Parts.{LearnedAre}
+use Rattle.sr_inv_openings.proofs.RingSteps.{AtOp, TellsLearn, left_was, pushed_from, pushed_ring, tells_learn}
+use Rattle.sr_inv_openings.proofs.Speaking.{leaving_known, placed_unlearned, sent_known}
 use Rattle.sr_law.specs.Opening.{opened_by, opening}
 use Rattle.sr_law.specs.declared.line.Line.{Line}
 use Rattle.sr_law.specs.declared.opening.Opening.{Opening}
@@ -44,6 +45,7 @@ use Rattle.sr_machine.specs.declared.op.Op.{Op}
 use Rattle.sr_machine.specs.declared.pipe_view.PipeView.{PipeView}
 use Rattle.sr_machine.specs.declared.reply.Reply.{Reply}
 use Rattle.sr_machine.specs.declared.stage.Stage.{Stage}
+use Rattle.sr_shadow.specs.Entry.{is_of}
 use Rattle.std.proofs.Common.{Bool, List, None, Option, Some, ap, false, if◌then◌else◌, inl, inr, refl, slice_get, slice_set, subst, sym, true, ℕ, ◌∙◌, ◌∷◌, ◌≡◌, ◌≢◌, ◌⊎◌}
 use Rattle.std.proofs.lemmas.Bool.{cases_eq}
 use Rattle.std.proofs.lemmas.Option.{same_Some}
@@ -229,7 +231,7 @@ module _ (s : Core) (i : Invariant s) where
       by kind true t h =
           let w = holds_so.entry in
           let own : r.key ≡ w.key = sym (same_key-true key r.key t) ∙ found_key key s.controller.book.entries w holds_so.found in
-          absurd (placed_unlearned s i w place (found_in key s.controller.book.entries w holds_so.found) holds_so.stands r.version
+          absurd (placed_unlearned s i w place (in_found (is_of key) s.controller.book.entries w holds_so.found) holds_so.stands r.version
           (subst (λ z. SomeLearn k (ring_words s.words) z r.version) own (n, c, read ∙ ap (λ z. Some (record { kind = z; version = r.version; key = r.key })) kind)))
       by kind false t h = subst (λ O. LearnedBy O s.pipes r.key r.version) (sym (or_none (opening (printed s) r.key))) h
 

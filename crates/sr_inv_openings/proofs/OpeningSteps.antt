@@ -7,17 +7,18 @@ use Rattle.sr_base.specs.declared.kind.Kind.TheVariants.{Carry, Ending, Opener}
 use Rattle.sr_base.specs.declared.vip_word.Phase.{Phase}
 use Rattle.sr_base.specs.declared.vip_word.Phase.TheVariants.{Holding, Recording, Steady, Transit}
 use Rattle.sr_inv_facts.proofs.Books.{found_key}
-use Rattle.sr_inv_facts.proofs.Lists.{all_in, of_some}
+use Rattle.sr_inv_facts.proofs.Lists.{all_in}
+use Rattle.sr_inv_facts.proofs.NamedPools.{named_else}
 use Rattle.sr_inv_facts.proofs.Printing.{job_tells, tells}
 use Rattle.sr_inv_facts.specs.Flying.{IsLeaving}
 use Rattle.sr_inv_facts.specs.InJobs.{AnswerHolds, AnswerNames, JobHolds, seen}
 use Rattle.sr_inv_facts.specs.InOpenings.{EntryOpened, IsReported, OpenedAs}
-use Rattle.sr_inv_facts.specs.InUpdate.{AtFirst, JobAt, OnUngiven, UpdateFits}
+use Rattle.sr_inv_facts.specs.InUpdate.{AtFirst, JobAt, OnUngiven}
 use Rattle.sr_inv_facts.specs.Invariant.{Invariant}
 use Rattle.sr_inv_facts.specs.OnTrack.{IsKnown}
 use Rattle.sr_inv_facts.specs.Readings.{ring_words}
+use Rattle.sr_inv_matching.proofs.Members.{in_found}
 use Rattle.sr_inv_openings.proofs.Registering.{registered_some}
-use Rattle.sr_inv_openings.proofs.Speaking.{found_in}
 use Rattle.sr_law.specs.Opening.{opened, opened_by, opening}
 use Rattle.sr_law.specs.declared.line.Line.{Line}
 use Rattle.sr_law.specs.declared.opening.Opening.{Opening}
@@ -37,11 +38,11 @@ use Rattle.sr_machine.specs.declared.op.Op.{Op}
 use Rattle.sr_machine.specs.declared.pool_update.PoolUpdate.{PoolUpdate}
 use Rattle.sr_machine.specs.declared.reply.Reply.{Reply}
 use Rattle.sr_shadow.specs.Book.{entry_for, is_registered}
+use Rattle.sr_shadow.specs.Entry.{is_of}
 use Rattle.sr_shadow.specs.declared.entry.Entry.{Entry}
 use Rattle.sr_update.specs.Numbers.{state_of}
 use Rattle.sr_update.specs.declared.number_state.NumberState.TheVariants.{Free}
-use Rattle.std.proofs.Common.{Bool, List, None, Option, Some, [], ap, arith, false, get_or-set_other, get_or-set_same, if◌then◌else◌, inl, inr, length, refl, slice_index, slice_index_or, slice_set, subst, sym, true, true≢false, ℕ, ◌++◌, ◌<◌, ◌∙◌, ◌∷◌, ◌≡◌, ◌≢◌, ◌⊎◌}
-use Rattle.std.proofs.lemmas.Bool.{cases_eq}
+use Rattle.std.proofs.Common.{Bool, List, None, Option, Some, ap, false, if◌then◌else◌, inl, inr, refl, subst, sym, true, true≢false, ℕ, ◌++◌, ◌∙◌, ◌∷◌, ◌≡◌}
 use Rattle.std.proofs.lemmas.Option.{same_Some}
 use Rattle.std.specs.Option.{option_or}
 use Rattle.sr_machine.specs.declared.draw.Draw.TheVariants as draw
@@ -224,46 +225,25 @@ module _ (s : Core) (i : Invariant s) where
           let same : key ≡ w.0.key = found_key key book w.0 w.1 in
           let opened_so : OpenedAs s.controller.named w.0 o =
           subst (EntryOpened s.config s.controller.vips s.controller.named s.controller.down s.controller.job s.pipes w.0) (ap (opening (printed s)) (sym same) ∙ e)
-          (all_in (λ e. EntryOpened s.config s.controller.vips s.controller.named s.controller.down s.controller.job s.pipes e (opening (printed s) e.key)) book w.0 i.openings.openings.entry (found_in key book w.0 w.1)) in
+          (all_in (λ e. EntryOpened s.config s.controller.vips s.controller.named s.controller.down s.controller.job s.pipes e (opening (printed s) e.key)) book w.0 i.openings.openings.entry (in_found (is_of key) book w.0 w.1)) in
           inl (w.0, w.1, sym opened_so.version)
       at false t = inr (subst (IsReported l (ring_words s.words) s.controller.named key) e (i.openings.openings.reported key t)).0
 
   -- ---- a version names another pool
 
-  -- the update whose version is to be named
-  given_fits : (u : PoolUpdate) → s.controller.job ≡ job.Draw (draw.Given u)
-      → (u.vip < l.vips) × (state_of u.vip u.given s.controller.numbers ≡ Some Free)
-  given_fits u e =
+  -- the version that is to be named is free
+  given_free : (u : PoolUpdate) → s.controller.job ≡ job.Draw (draw.Given u) → state_of u.vip u.given s.controller.numbers ≡ Some Free
+  given_free u e =
       let at_first : AtFirst s.controller.update s.controller.vips u = subst (JobAt s.config s.controller.update s.controller.vips) e i.update.update.phase in
-      let fits : UpdateFits s.config u = of_some (UpdateFits s.config) s.controller.update u i.update.update.fits at_first.0 in
       let ungiven : OnUngiven (Some u) (job.Draw (draw.Given u)) (λ u. state_of u.vip u.given s.controller.numbers ≡ Some Free) =
       subst (λ j. OnUngiven (Some u) j (λ u. state_of u.vip u.given s.controller.numbers ≡ Some Free)) e
       (subst (λ o. OnUngiven o s.controller.job (λ u. state_of u.vip u.given s.controller.numbers ≡ Some Free)) at_first.0 i.update.versions.ungiven) in
-      (fits.vip, ungiven refl)
+      ungiven refl
 
   -- the pools of versions that aren't free stay
   pub given_named : (u : PoolUpdate) → s.controller.job ≡ job.Draw (draw.Given u) → (vip n : ℕ)
       → (state_of vip n s.controller.numbers ≡ Some Free → ⊥)
       → named_at (with_named u.vip u.given u.pool s.controller.named) vip n ≡ named_at s.controller.named vip n
-  given_named u e vip n used = at (cases_eq vip u.vip)
-    where
-      rows : List (List ℕ)
-      rows = s.controller.named
-
-      inside : u.vip < length s.controller.named
-      inside = omega (arith, (given_fits u e).0, i.shape.controller.named.count)
-
-      at : (vip ≡ u.vip) ⊎ (vip ≢ u.vip)
-          → named_at (with_named u.vip u.given u.pool s.controller.named) vip n ≡ named_at s.controller.named vip n
-      at (inl same) = by (cases_eq n u.given)
-        where
-          by : (n ≡ u.given) ⊎ (n ≢ u.given)
-              → named_at (with_named u.vip u.given u.pool s.controller.named) vip n ≡ named_at s.controller.named vip n
-          by (inl f) =
-              absurd (used (ap (λ z. state_of z n s.controller.numbers) same ∙ (ap (λ z. state_of u.vip z s.controller.numbers) f ∙ (given_fits u e).1)))
-          by (inr f) =
-              ap (λ z. named_at (with_named u.vip u.given u.pool rows) z n) same
-              ∙ (ap (λ row. slice_index row n) (get_or-set_same rows u.vip (slice_set (slice_index_or rows u.vip []) u.given u.pool) [] inside)
-              ∙ (get_or-set_other (slice_index_or rows u.vip []) u.given n u.pool 0 f ∙ ap (λ z. named_at rows z n) (sym same)))
-      at (inr apart) =
-          ap (λ row. slice_index row n) (get_or-set_other rows u.vip vip (slice_set (slice_index_or rows u.vip []) u.given u.pool) [] apart)
+  given_named u e vip n used =
+      named_else s.controller.named vip n u.vip u.given u.pool
+      (λ a b. used (ap (λ z. state_of z n s.controller.numbers) (sym a) ∙ (ap (λ z. state_of u.vip z s.controller.numbers) (sym b) ∙ given_free u e)))

@@ -22,10 +22,11 @@ use Rattle.sr_inv_facts.specs.InTicks.{same}
 use Rattle.sr_inv_facts.specs.Invariant.{Invariant}
 use Rattle.sr_inv_facts.specs.Laws.{OpensWith}
 use Rattle.sr_inv_facts.specs.Readings.{EachPipe, In, SomeLearn, Speaks, ring_words}
+use Rattle.sr_inv_matching.proofs.Members.{in_found}
+use Rattle.sr_inv_openings.proofs.Parts.{PushedAre}
 use Rattle.sr_inv_openings.proofs.Registering.{judged_registered, learn_registers, registered_changed, registered_some, take_registered, without_found}
 use Rattle.sr_inv_openings.proofs.RingSteps.{AtOp, learn_left, learn_pushed, pushed_here, pushed_ring, taken_ring}
-use Rattle.sr_inv_openings.proofs.Speaking.{found_in, learn_current, placed_own, placed_says, sent_known, sent_missed}
-use Rattle.sr_inv_openings.proofs.Parts.{PushedAre}
+use Rattle.sr_inv_openings.proofs.Speaking.{learn_current, placed_own, placed_says, sent_known, sent_missed}
 use Rattle.sr_law.specs.declared.verdict.HeldBy.{HeldBy}
 use Rattle.sr_law.specs.declared.verdict.Verdict.{Verdict}
 use Rattle.sr_machine.specs.Core.{Core, opening, printed}
@@ -48,7 +49,7 @@ use Rattle.sr_machine.specs.declared.pipe_view.PipeView.{PipeView}
 use Rattle.sr_machine.specs.declared.said.Said.{Said}
 use Rattle.sr_machine.specs.declared.stage.Stage.{Stage}
 use Rattle.sr_shadow.specs.Book.{is_registered, without_key}
-use Rattle.sr_shadow.specs.Entry.{left_other, swept}
+use Rattle.sr_shadow.specs.Entry.{is_of, left_other, swept}
 use Rattle.sr_shadow.specs.declared.entry.Entry.{Entry}
 use Rattle.std.proofs.Common.{Bool, List, None, Option, Some, [], false, if◌then◌else◌, inl, inr, refl, slice_get, slice_set, subst, sym, true, ℕ, ◌%◌, ◌==◌, ◌∙◌, ◌∷◌, ◌≡◌, ◌⊎◌}
 use Rattle.sr_machine.specs.declared.draw.Draw.TheVariants as draw
@@ -330,7 +331,7 @@ module _ (s : Core) (i : Invariant s) where
       by p v f server n pool q a kind false t (inr (w, r, z)) = inr (w, without_found key f.packet.key t book ∙ r, z)
       by p v f server n pool q a kind true t (inr h) =
           let w = holds_so.entry in
-          let m : In w book = found_in key book w holds_so.found in
+          let m : In w book = in_found (is_of key) book w holds_so.found in
           let own : f.packet.key ≡ w.key = sym (same_key-true key f.packet.key t) ∙ found_key key book w holds_so.found in
           absurd (subst (λ j. MissedReserved j p f.entered place) e
           (sent_missed s i p v f server n pool last.Out q a kind place (subst (λ z. is_place_of k.shape z place ≡ true) (sym own) (placed_own s i w place m holds_so.stands))

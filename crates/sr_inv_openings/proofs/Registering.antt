@@ -48,9 +48,6 @@ registered_some key es h = at (entry_for key es) refl
     at None q = absurd (true≢false (sym h ∙ registered_none key es q))
     at (Some e) q = (e, q)
 
-pub registered_is : (key : KeyView) (es : List Entry) (e : Entry) → entry_for key es ≡ Some e → is_registered key es ≡ true
-registered_is key es e q = registered_found key es ∙ ap is_some q
-
 -- taking out another key's entry leaves a key's
 pub without_found : (key other : KeyView) → same_key key other ≡ false → (es : List Entry) → entry_for other (without_key key es) ≡ entry_for other es
 without_found key other apart [] = refl

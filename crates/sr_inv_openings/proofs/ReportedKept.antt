@@ -14,11 +14,12 @@ use Rattle.sr_inv_facts.specs.InTicks.{same}
 use Rattle.sr_inv_facts.specs.Invariant.{Invariant}
 use Rattle.sr_inv_facts.specs.Laws.{OpensWith}
 use Rattle.sr_inv_facts.specs.Readings.{SomeLearn, ring_words}
+use Rattle.sr_inv_matching.proofs.Members.{registered_found}
 use Rattle.sr_inv_openings.proofs.OpeningSteps.{PacketOpens, answer_opens, given_named, opens_quiet, or_none, packet_opens}
-use Rattle.sr_inv_openings.proofs.Registering.{judged_registered, learn_registers, registered_changed, registered_is, registered_some, take_registered, without_registered}
+use Rattle.sr_inv_openings.proofs.Parts.{ReportedAre}
+use Rattle.sr_inv_openings.proofs.Registering.{judged_registered, learn_registers, registered_changed, registered_some, take_registered, without_registered}
 use Rattle.sr_inv_openings.proofs.RingSteps.{AtOp, learn_left, learn_pushed, taken_ring}
 use Rattle.sr_inv_openings.proofs.Speaking.{learn_current, sent_pool}
-use Rattle.sr_inv_openings.proofs.Parts.{ReportedAre}
 use Rattle.sr_law.specs.Opening.{opened_by, opening, retires}
 use Rattle.sr_law.specs.declared.line.Line.{Line}
 use Rattle.sr_law.specs.declared.opening.Opening.{Opening}
@@ -109,7 +110,7 @@ module _ (s : Core) (i : Invariant s) (p : ℕ) (v : PipeView) (q : slice_get s.
               → SomeLearn l (ring_words s.words) key o.version
           by a (inl h) = subst (λ z. SomeLearn l (ring_words s.words) z o.version) a.own h
           by a (inr h) =
-              absurd (true≢false (sym (registered_is key es h.0 (ap (λ z. entry_for z es) (sym a.own) ∙ h.1)) ∙ none))
+              absurd (true≢false (sym (registered_found key es h.0 (ap (λ z. entry_for z es) (sym a.own) ∙ h.1)) ∙ none))
 
       at : (O : Option Opening) → opening (printed s) key ≡ O
           → IsReported l (ring_words s.words) s.controller.named key (option_or (opening (printed s) key) (opened_by (packet_line v.number f u x) key))
@@ -147,7 +148,7 @@ unregistered es fs key stays none = at (is_registered key es) refl
     at true t =
         let w = registered_some key es t in
         let r = stays w.0.version (w.0, w.1, refl) in
-        absurd (true≢false (sym (registered_is key fs r.0 r.1) ∙ none))
+        absurd (true≢false (sym (registered_found key fs r.0 r.1) ∙ none))
     at false t = refl
 
 module _ (s : Core) (i : Invariant s) where
@@ -199,7 +200,7 @@ module _ (s : Core) (i : Invariant s) where
           absurd (two (learn_registers k s.controller.numbers ended x s.controller.book _ took key n h (learn_current s i pipe (taken % k.shape.ring) _ h refl)))
         where
           two : IsRegisteredWith (taking s.config s.controller ended pipe (s.words (ring_cell k pipe (ring_count s.controller.rings pipe).words))).book.entries key n ⊎ (is_registered key book ≡ true) → ⊥
-          two (inl r) = true≢false (sym (registered_is key _ r.0 r.1) ∙ none)
+          two (inl r) = true≢false (sym (registered_found key _ r.0 r.1) ∙ none)
           two (inr r) = true≢false (sym r ∙ before)
 
   -- a connection that is retired isn't open
@@ -224,7 +225,7 @@ module _ (s : Core) (i : Invariant s) where
       at None g =
           subst (IsReported k (ring_words s.words) s.controller.named key) (sym (ap (option_or (opening (printed s) key)) g ∙ or_none (opening (printed s) key))) (i.openings.openings.reported key none)
       at (Some o) g =
-          let a = answer_opens s i r e x key o g in absurd (true≢false (sym (registered_is key book a.entry a.found) ∙ none))
+          let a = answer_opens s i r e x key o g in absurd (true≢false (sym (registered_found key book a.entry a.found) ∙ none))
 
   reported_job : (j : Job) → s.controller.job ≡ j → AfterJob ReportedAre s j (job_op s.config s.controller j)
   reported_job job.Free e = tt

@@ -1,20 +1,16 @@
 -- What the tables and the rings of a state that meets the invariant say.
-use Rattle.sr_base.proofs.Sameness.{same_key-self, same_place-self}
 use Rattle.sr_base.specs.Key.{KeyView}
 use Rattle.sr_base.specs.Layout.{LayoutView}
 use Rattle.sr_base.specs.declared.kind.Kind.{Kind}
 use Rattle.sr_base.specs.declared.kind.Kind.TheVariants.{Opener}
 use Rattle.sr_base.specs.declared.place.Place.{Place}
-use Rattle.sr_base.specs.declared.place.Place.TheVariants.{Row, Slot}
 use Rattle.sr_base.specs.declared.ring_word.RingKind.{RingKind}
 use Rattle.sr_base.specs.declared.ring_word.RingKind.TheVariants.{Close, Learn, Punt}
 use Rattle.sr_base.specs.declared.ring_word.RingWord.{RingWord}
-use Rattle.sr_base.specs.declared.vip_word.Phase.{Phase}
-use Rattle.sr_base.specs.declared.vip_word.Phase.TheVariants.{Holding, Recording, Steady, Transit}
-use Rattle.sr_base.specs.declared.vip_word.VipWord.{VipWord}
 use Rattle.sr_hash.specs.Uses.{is_place_of}
+use Rattle.sr_inv_facts.proofs.CurrentVersions.{WordCurrent, present_current}
 use Rattle.sr_inv_facts.proofs.Lists.{all_in, of_some}
-use Rattle.sr_inv_facts.proofs.Ranges.{PutFits, put_fits, word_fits}
+use Rattle.sr_inv_facts.proofs.Ranges.{PutFits, put_fits}
 use Rattle.sr_inv_facts.proofs.Reading.{report_fits}
 use Rattle.sr_inv_facts.specs.Doing.{MissedReserved}
 use Rattle.sr_inv_facts.specs.Flying.{IfOpener, IsLeaving, OnLeg, OnUnmatched, SomeLeaving}
@@ -22,35 +18,24 @@ use Rattle.sr_inv_facts.specs.InFilter.{IsOfWord, ReportMarked}
 use Rattle.sr_inv_facts.specs.InFlight.{LegHolds}
 use Rattle.sr_inv_facts.specs.InJobs.{JobHolds, PutHolds, seen}
 use Rattle.sr_inv_facts.specs.InMatching.{Judged, Unmatched}
-use Rattle.sr_inv_facts.specs.InShape.{EntryFits, WordFits}
-use Rattle.sr_inv_facts.specs.InUpdate.{IsNew, IsWordOf, JobAt, UpdateHolds, is_ungiven, standing}
-use Rattle.sr_inv_facts.specs.InWords.{job_word}
+use Rattle.sr_inv_facts.specs.InShape.{EntryFits}
 use Rattle.sr_inv_facts.specs.Invariant.{Invariant}
 use Rattle.sr_inv_facts.specs.OnTrack.{GoesBy, IsKnown, IsOnDuty}
 use Rattle.sr_inv_facts.specs.Readings.{EachLearn, IfLearn, In, SomeLearn, Speaks, SpeaksLive, bit_words, entry_words, ring_words}
-use Rattle.sr_machine.proofs.Written.{live_says, reserved_says}
-use Rattle.sr_machine.specs.Config.{Config}
+use Rattle.sr_inv_matching.proofs.Members.{in_own}
+use Rattle.sr_inv_matching.proofs.Saying.{at_held, own_said, reserved_is, reserved_speaks, stands_self}
 use Rattle.sr_machine.specs.Core.{Core, printed}
 use Rattle.sr_machine.specs.Deciding.{named_at, vip_at}
-use Rattle.sr_machine.specs.Reads.{live_word, read_report, reserved_word, says, stands_for, steady}
-use Rattle.sr_machine.specs.Stores.{phase_word}
+use Rattle.sr_machine.specs.Reads.{read_report, says, stands_for}
 use Rattle.sr_machine.specs.declared.flight.Flight.{Flight}
-use Rattle.sr_machine.specs.declared.job.Job.{Job}
 use Rattle.sr_machine.specs.declared.leg.Last.{Last}
 use Rattle.sr_machine.specs.declared.pipe_view.PipeView.{PipeView}
-use Rattle.sr_machine.specs.declared.pool_update.PoolUpdate.{PoolUpdate}
 use Rattle.sr_machine.specs.declared.put.Put.{Put}
 use Rattle.sr_machine.specs.declared.stage.Stage.{Stage}
-use Rattle.sr_shadow.specs.Book.{entry_for, holder_entry, holder_of}
-use Rattle.sr_shadow.specs.Entry.{holds, is_at, is_of, times_held}
 use Rattle.sr_shadow.specs.declared.entry.Entry.{Entry}
 use Rattle.sr_update.specs.Numbers.{state_of}
 use Rattle.sr_update.specs.declared.number_state.NumberState.TheVariants.{Current}
-use Rattle.std.proofs.Common.{Bool, List, None, Option, Some, [], ap, arith, cond, false, if◌then◌else◌, inl, inr, option_map, refl, slice_get, subst, sum_by, sym, true, true≢false, unwrap_or, ℕ, ◌+◌, ◌<◌, ◌==◌, ◌||◌, ◌∙◌, ◌∷◌, ◌≡◌, ◌≢◌, ◌≤◌, ◌⊎◌}
-use Rattle.std.proofs.lemmas.Bool.Decides.{nat_tests}
-use Rattle.std.proofs.lemmas.List.Sums.{sum_by-cons}
-use Rattle.std.proofs.lemmas.Option.{same_Some}
-use Rattle.sr_machine.specs.declared.draw.Draw.TheVariants as draw
+use Rattle.std.proofs.Common.{List, Some, [], ap, false, inl, inr, refl, slice_get, subst, sym, true, true≢false, ℕ, ◌∙◌, ◌≡◌, ◌≢◌, ◌⊎◌}
 use Rattle.sr_machine.specs.declared.store.Store.TheVariants as store
 use Rattle.sr_machine.specs.declared.job.Job.TheVariants as job
 use Rattle.sr_machine.specs.declared.leg.Leg.TheVariants as leg
@@ -59,58 +44,6 @@ use Rattle.sr_machine.specs.declared.stage.Stage.TheVariants as stage
 use Rattle.sr_machine.specs.declared.said.Said.TheVariants as said
 use Rattle.sr_machine.specs.declared.name.Name.TheVariants as name
 use Rattle.sr_law.specs.declared.verdict.Verdict.TheVariants as verdict
-
--- ---- entries
-
--- an entry that is found is in the book
-pub found_in : (key : KeyView) (es : List Entry) (e : Entry) → entry_for key es ≡ Some e → In e es
-found_in key [] e q = cc
-found_in key (x ∷ es) e q = at (is_of key x) q (found_in key es e)
-  where
-    at : (b : Bool) → cond b (Some x) (entry_for key es) ≡ Some e → (entry_for key es ≡ Some e → In e es) → In e (x ∷ es)
-    at true r more = inl (sym (same_Some x e r))
-    at false r more = inr (more r)
-
-held_times : (place : Place) (e : Entry) → holds place e ≡ true → 1 ≤ times_held place e
-held_times place e = at (is_at place e.place) (is_at place e.also)
-  where
-    at : (a b : Bool) → (a || b) ≡ true → 1 ≤ cond a 1 0 + cond b 1 0
-    at true b q = omega arith
-    at false true q = omega arith
-    at false false q = cc
-
-in_times : (place : Place) (es : List Entry) (e : Entry) → In e es → holds place e ≡ true → 1 ≤ sum_by (times_held place) es
-in_times place [] e i h = absurd i
-in_times place (x ∷ es) e (inl q) h =
-    omega (arith, sum_by-cons (times_held place) x es, held_times place x (ap (holds place) (sym q) ∙ h))
-in_times place (x ∷ es) e (inr i) h = omega (arith, sum_by-cons (times_held place) x es, in_times place es e i h)
-
--- the entry that holds a place, where none is held twice
-pub holder_is : (place : Place) (es : List Entry) (e : Entry) → In e es → holds place e ≡ true → sum_by (times_held place) es ≤ 1
-    → holder_entry place es ≡ Some e
-holder_is place [] e i h o = absurd i
-holder_is place (x ∷ es) e (inl q) h o =
-    ap (λ b. cond b (Some x) (holder_entry place es)) (ap (holds place) (sym q) ∙ h) ∙ ap Some (sym q)
-holder_is place (x ∷ es) e (inr i) h o =
-    at (holds place x) refl (holder_is place es e i h (omega (arith, sum_by-cons (times_held place) x es, o)))
-  where
-    at : (b : Bool) → holds place x ≡ b → holder_entry place es ≡ Some e → cond b (Some x) (holder_entry place es) ≡ Some e
-    at true q more =
-        absurd (omega (arith, sum_by-cons (times_held place) x es, held_times place x q, in_times place es e i h))
-    at false q more = more
-
--- nobody's key is no one
-nobody : (place : Place) (es : List Entry) → holder_of place es ≡ None → holder_entry place es ≡ None
-nobody place es = at (holder_entry place es)
-  where
-    at : (o : Option Entry) → option_map (λ e. e.key) o ≡ None → o ≡ None
-    at None h = refl
-    at (Some e) h = cc
-
--- a place stands for the key that stands there
-pub stands_self : (l : LayoutView) (place : Place) (key : KeyView) → stands_for l place key key ≡ true
-stands_self l (Slot way bucket cell) key = grind (arith, nat_tests)
-stands_self l (Row row) key = same_key-self key
 
 -- ---- openers that are sent
 
@@ -138,75 +71,6 @@ leaves a key version h = absurd h
 pub is_opener_so : (kind : Kind) (P : Type 0) → kind ≡ Opener → IfOpener kind P → P
 is_opener_so kind P e h = subst (λ z. IfOpener z P) e h
 
--- ---- versions that may be learned
-
--- before the Given line of an update its virtual address has the old version's word
-ungiven_first : (k : Config) (u : PoolUpdate) (vips : List VipWord) (j : Job) → is_ungiven j ≡ true → JobAt k (Some u) vips j
-    → vip_at vips u.vip ≡ steady u.replaced
-ungiven_first k u vips (job.Store (store.Member w index)) e h = subst (λ z. vip_at vips z.vip ≡ steady z.replaced) (sym (same_Some u w h.0.0)) h.0.1
-ungiven_first k u vips (job.Store (store.Head w)) e h = subst (λ z. vip_at vips z.vip ≡ steady z.replaced) (sym (same_Some u w h.0)) h.1
-ungiven_first k u vips (job.Draw (draw.Given w)) e h = subst (λ z. vip_at vips z.vip ≡ steady z.replaced) (sym (same_Some u w h.0)) h.1
-ungiven_first k u vips j e h = cc
-
--- the word of a virtual address tells versions that are Current
-current_of : (k : Config) (update : Option PoolUpdate) (vips : List VipWord) (j : Job) → UpdateHolds k update vips j → (vip version : ℕ)
-    → IsOfWord (vip_at vips vip) version → (version ≡ standing update vips vip) ⊎ IsNew update j vip version
-current_of k None vips j h vip version (inl e) = inl e
-current_of k None vips j h vip version (inr e) = absurd (apart (sym (h.others vip tt) ∙ e.0))
-  where
-    apart : Steady ≡ Transit → ⊥
-    apart q = cc
-current_of k (Some u) vips j h vip version w = at (vip == u.vip) refl
-  where
-    apart : Steady ≡ Transit → ⊥
-    apart q = cc
-
-    given : (p : Phase) → vip_at vips u.vip ≡ phase_word u p → (phase_word u p ≡ steady u.replaced → ⊥) → is_ungiven j ≡ false
-    given p e off = by (is_ungiven j) refl
-      where
-        by : (b : Bool) → is_ungiven j ≡ b → b ≡ false
-        by true q = absurd (off (sym e ∙ ungiven_first k u vips j q h.phase))
-        by false q = refl
-
-    other : steady u.given ≡ steady u.replaced → ⊥
-    other q = h.fits.other (sym (ap (λ z. z.cur) q))
-
-    in_transit : phase_word u Transit ≡ steady u.replaced → ⊥
-    in_transit q = apart (sym (ap (λ z. z.phase) q))
-
-    own : vip ≡ u.vip → (p : Phase) → vip_at vips u.vip ≡ phase_word u p → IsOfWord (phase_word u p) version
-        → (version ≡ u.replaced) ⊎ IsNew (Some u) j vip version
-    own same Steady e (inl q) = inr (given Steady e other, same, q)
-    own same Steady e (inr q) = absurd (apart q.0)
-    own same Recording e (inl q) = inl q
-    own same Recording e (inr q) = cc
-    own same Holding e (inl q) = inl q
-    own same Holding e (inr q) = cc
-    own same Transit e (inl q) = inl q
-    own same Transit e (inr q) = inr (given Transit e in_transit, same, q.1)
-
-    first : IsOfWord (steady u.replaced) version → version ≡ u.replaced
-    first (inl q) = q
-    first (inr q) = absurd (apart q.0)
-
-    at : (b : Bool) → (vip == u.vip) ≡ b → (version ≡ (if b then u.replaced else (vip_at vips vip).cur)) ⊎ IsNew (Some u) j vip version
-    at true t = by h.word
-      where
-        same : vip ≡ u.vip
-        same = grind (arith, nat_tests)
-
-        here : IsOfWord (vip_at vips u.vip) version
-        here = subst (λ z. IsOfWord (vip_at vips z) version) same w
-
-        by : IsWordOf u (vip_at vips u.vip) → (version ≡ u.replaced) ⊎ IsNew (Some u) j vip version
-        by (inl e) = inl (first (subst (λ z. IsOfWord z version) e here))
-        by (inr (p, e)) = own same p e (subst (λ z. IsOfWord z version) e here)
-    at false t = by w
-      where
-        by : IsOfWord (vip_at vips vip) version → (version ≡ (vip_at vips vip).cur) ⊎ IsNew (Some u) j vip version
-        by (inl e) = inl e
-        by (inr e) = absurd (apart (sym (h.others vip (grind (arith, nat_tests))) ∙ e.0))
-
 module _ (s : Core) (i : Invariant s) where
   abbrev l : LayoutView
   l = s.config.layout
@@ -219,22 +83,10 @@ module _ (s : Core) (i : Invariant s) where
   pub fits_entry : (e : Entry) → In e book → EntryFits l e
   fits_entry e m = all_in (EntryFits l) book e i.shape.book.entries m
 
-  -- an entry's place has its word
-  pub placed_word : (e : Entry) (place : Place) → In e book → e.place ≡ Some place
-      → s.words (name.Entry place) ≡ live_word l place e.key e.version
-  placed_word e place m q =
-      let here : holds place e ≡ true = ap (λ b. b || is_at place e.also) (ap (is_at place) q ∙ same_place-self place) in
-      i.words.others.table place
-      ∙ ap (λ o. unwrap_or (option_map (λ e. live_word l place e.key e.version) o) (job_word l place s.controller.job))
-      (holder_is place book e m here (i.jobs.holds.once place))
-
-  -- and says its version to its key
+  -- an entry's place says its version to its key
   pub placed_says : (e : Entry) (place : Place) → In e book → e.place ≡ Some place
       → says l place e.key (s.words (name.Entry place)) ≡ said.Live e.version
-  placed_says e place m q =
-      ap (says l place e.key) (placed_word e place m q)
-      ∙ (live_says l i.shape.config.layout place e.key e.key e.version (fits_entry e m).key (fits_entry e m).version
-      ∙ ap (λ b. if b then said.Live e.version else said.Nothing) (stands_self l place e.key))
+  placed_says e place m q = own_said s i e.key e place (in_own book e i.shape.book.distinct m) (at_held place e q)
 
   pub placed_own : (e : Entry) (place : Place) → In e book → e.place ≡ Some place → is_place_of l.shape e.key place ≡ true
   placed_own e place m q = of_some (λ p. is_place_of l.shape e.key p ≡ true) e.place place (fits_entry e m).place q
@@ -302,15 +154,14 @@ module _ (s : Core) (i : Invariant s) where
   learn_current pipe cell w read kind =
       let m : ReportMarked l (bit_words s.words) s.controller.update s.controller.vips s.controller.job w.key w.version =
       subst (λ z. IfLearn z (ReportMarked l (bit_words s.words) s.controller.update s.controller.vips s.controller.job w.key w.version)) kind (i.filter.filter.reports pipe cell w read) in
-      (i.update.versions.current w.key.vip w.version (report_fits l (s.words (name.Ring pipe cell)) w read).1 (below m.0)).1
-      (current_of s.config s.controller.update s.controller.vips s.controller.job i.update.update w.key.vip w.version m.0)
+      at m.0
     where
-      word : WordFits l (vip_at s.controller.vips w.key.vip)
-      word = word_fits s.config i.shape.config.layout s.controller i.shape.book i.shape.controller w.key.vip
+      word : WordCurrent s.controller.numbers w.key.vip (vip_at s.controller.vips w.key.vip)
+      word = present_current s i w.key.vip (report_fits s.config.layout (s.words (name.Ring pipe cell)) w read).1
 
-      below : IsOfWord (vip_at s.controller.vips w.key.vip) w.version → w.version < l.shape.versions
-      below (inl e) = subst (λ n. n < l.shape.versions) (sym e) word.cur
-      below (inr e) = subst (λ n. n < l.shape.versions) (sym e.1) word.next
+      at : IsOfWord (vip_at s.controller.vips w.key.vip) w.version → state_of w.key.vip w.version s.controller.numbers ≡ Some Current
+      at (inl e) = ap (λ n. state_of w.key.vip n s.controller.numbers) e ∙ word.cur
+      at (inr e) = ap (λ n. state_of w.key.vip n s.controller.numbers) e.1 ∙ word.next e.0
 
   -- ---- a put that is to be made live or given up
 
@@ -319,14 +170,8 @@ module _ (s : Core) (i : Invariant s) where
   judged_speaks p e =
       let put : PutHolds l.shape book s.controller.held p = (subst (JobHolds s.config (seen s.controller) (printed s)) e i.jobs.holds.stands).0 in
       let fits : PutFits l p = put_fits s.config i.shape.config.layout s.controller i.shape.book i.shape.controller p put in
-      let word : s.words (name.Entry p.place) ≡ reserved_word l p.place p.key =
-      i.words.others.table p.place
-      ∙ (ap (λ o. unwrap_or (option_map (λ e. live_word l p.place e.key e.version) o) (job_word l p.place s.controller.job)) (nobody p.place book put.free)
-      ∙ (ap (job_word l p.place) e ∙ ap (λ b. if b then reserved_word l p.place p.key else 0) (same_place-self p.place))) in
-      let told : says l p.place p.key (s.words (name.Entry p.place)) ≡ said.Reserved =
-      ap (says l p.place p.key) word
-      ∙ (reserved_says l i.shape.config.layout p.place p.key p.key fits.key.is_key ∙ ap (λ b. if b then said.Reserved else said.Nothing) (stands_self l p.place p.key)) in
-      subst Speaks (sym told) tt
+      subst (λ x. Speaks (says l p.place p.key x)) (sym (reserved_is s i p (job.Store (store.Judge p)) e put refl))
+      (reserved_speaks l i.shape.config.layout p.place p.key p.key fits.key.is_key (stands_self l p.place p.key))
 
   pub judged_own : (p : Put) → s.controller.job ≡ job.Store (store.Judge p) → is_place_of l.shape p.key p.place ≡ true
   judged_own p e = (subst (JobHolds s.config (seen s.controller) (printed s)) e i.jobs.holds.stands).0.own
