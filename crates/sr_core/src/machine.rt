@@ -1,10 +1,10 @@
-ghost use Rattle.std.specs.Prelude.{◌≡◌, ◌≤◌, ℕ, IfOk, if◌then◌else◌, option_map};
+ghost use Rattle.std.specs.Prelude.{◌≡◌, ◌≤◌, ◌++◌, ℕ, IfOk, if◌then◌else◌, option_map};
 ghost use Rattle.std.specs.List.{list_all};
 ghost use Rattle.sr_base.specs.WordName.{HasWord, word_at};
 ghost use Rattle.sr_core.specs.HeldCore.{ControlsTo, IsActorOf, Shows, StepsTo, lines_by, state_of};
 ghost use Rattle.sr_core.specs.HeldPipes.{is_idle_at};
 ghost use Rattle.sr_core.specs.PlainWords.{ShowsWords};
-ghost use Rattle.sr_machine.specs.Core.{opening, step_event};
+ghost use Rattle.sr_machine.specs.Core.{opening, pipe_lines, step_event};
 ghost use Rattle.sr_machine.specs.Pipe.{is_idle};
 ghost use Rattle.sr_machine.specs.Settling.{awaited};
 ghost use Rattle.sr_machine.specs.declared.actor.Actor.TheVariants as actor;
@@ -169,6 +169,15 @@ impl Core {
             Actor::Pipe(pipe) => self.pipes.lines(pipe),
             Actor::Controller => self.controller.lines(),
         }
+    }
+
+    /// The lines of all actors so far: those of one pipe after another, and then the controller's.
+    pub fn all_lines(&self, alloc: Global) -> Result<Vec<Line>, AllocError>
+        ensures { IfOk result (λ v. v.items ≡ pipe_lines self.now.pipes ++ self.now.controller.lines) }
+    {
+        let mut lines = self.pipes.all_lines(alloc)?;
+        lines.extend_from_slice(self.controller.lines())?;
+        Ok(lines)
     }
 
     /// A word.

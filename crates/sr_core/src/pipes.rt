@@ -2,6 +2,7 @@ ghost use Rattle.std.specs.Prelude.{◌≡◌, ◌<◌, IfOk, IfSome, IsSome, So
 ghost use Rattle.std.specs.List.{list_all, range_with_len};
 ghost use Rattle.sr_base.specs.WordName.{HasWord};
 ghost use Rattle.sr_core.specs.HeldPipes.{AreOf, DoesTo, after_at, entered_at, is_idle_at, lines_at, op_at, views_of};
+ghost use Rattle.sr_machine.specs.Core.{pipe_lines};
 ghost use Rattle.sr_machine.specs.Names.{word_name};
 ghost use Rattle.sr_machine.specs.Ops.{op_name};
 ghost use Rattle.sr_machine.specs.Pipe.{entered, fresh_pipe, is_idle};
@@ -100,6 +101,13 @@ impl Pipes {
     {
         self.pipes[pipe as usize].lines()
     }
+
+    /// The lines of all pipes so far, one pipe after another.
+    pub fn all_lines(&self, alloc: Global) -> Result<Vec<Line>, AllocError>
+        ensures { IfOk result (λ v. v.items ≡ pipe_lines self.now.views) }
+    {
+        lines_of_all(alloc, &self.pipes)
+    }
 }
 
 // A packet enters on the pipe of this number, if it can.
@@ -114,6 +122,17 @@ fn enter_at(layout: &Layout, pipes: &mut [PipeMachine], pipe: u8, packet: Packet
     } else {
         Stepped::NotNow
     }
+}
+
+// The lines of these pipes so far, one pipe after another.
+fn lines_of_all(alloc: Global, pipes: &[PipeMachine]) -> Result<Vec<Line>, AllocError>
+    ensures { IfOk result (λ v. v.items ≡ pipe_lines (views_of pipes.now)) }
+{
+    let mut lines = Vec::new(alloc);
+    for pipe in pipes {
+        lines.extend_from_slice(pipe.lines())?;
+    }
+    Ok(lines)
 }
 
 // Whether none of these pipes has a packet in hand.

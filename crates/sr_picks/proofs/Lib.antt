@@ -1,4 +1,5 @@
 pub mod Turns
 pub mod Lowers
+mod Once
 pub mod Picked
 mod Runs

@@ -28,7 +28,7 @@ module _ {A : Type 0} (test : A → Bool) where
   none_fails [] e = refl
   none_fails (y ∷ ys) e = none_by y ys (test y) (none_fails ys) e
 
-range_parts : (a m n : ℕ) → range_with_len a (m + n) ≡ range_with_len a m ++ range_with_len (a + m) n
+pub range_parts : (a m n : ℕ) → range_with_len a (m + n) ≡ range_with_len a m ++ range_with_len (a + m) n
 range_parts a zero n =
     let none : zero + n ≡ n = omega arith in
     let here : a ≡ a + 0 = omega arith in
@@ -39,7 +39,7 @@ range_parts a (suc m) n =
     ap (range_with_len a) more ∙ ap (λ xs. a ∷ xs) (range_parts (a + 1) m n)
     ∙ ap (λ b. a ∷ range_with_len (a + 1) m ++ range_with_len b n) on
 
-both : (a b : Bool) → (a && b) ≡ true → (b && a) ≡ true
+pub both : (a b : Bool) → (a && b) ≡ true → (b && a) ≡ true
 both true true e = refl
 both true false e = absurd (cc e)
 both false b e = absurd (cc e)

@@ -19,6 +19,13 @@ pub fn picks_are_runs()
         → Reaches k t }
 {}
 
+/// A law: a run by picks ends in one way alone, so its state and how its turns end are a function of the machine, the seed and the
+/// packets.
+pub fn runs_end_once()
+    ensures { (k : Config) (seed : ℕ) (packets : List ATimed) (r z : ASettled) (t u : AState) → RunsByPicks k seed packets r t
+        → RunsByPicks k seed packets z u → (r ≡ z) × (t ≡ u) }
+{}
+
 /// A law: a round ends. Each pick lowers what is left of it, and where nobody is picked every actor has ended.
 pub fn rounds_end()
     ensures lower { PicksLower }

@@ -11,4 +11,4 @@
 
 mod laws;
 
-pub use laws::{picks_are_runs, rounds_end, turns_are_turns};
+pub use laws::{picks_are_runs, rounds_end, runs_end_once, turns_are_turns};

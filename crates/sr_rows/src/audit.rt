@@ -107,6 +107,18 @@ pub fn judges<R: Threads + Sync>(
     Ok(told.bytes() == wanted.as_bytes())
 }
 
+/// Whether a log is lawful for a script.
+pub fn is_lawful<R: Threads + Sync>(
+    rt: &R,
+    alloc: Global,
+    script: &[u8],
+    log: &[u8],
+) -> Result<bool, AllocError> {
+    let mut shelf = scene_shelf(alloc, script)?;
+    let told = told_over(rt, alloc, log_row(log), &mut shelf)?;
+    Ok(told.bytes().starts_with(b"lawful ") && told.bytes().ends_with(b"exit 0\n"))
+}
+
 // The first row that is judged otherwise. Empty where none is.
 fn misjudged<R: Threads + Sync>(rt: &R, alloc: Global) -> Result<&'static str, AllocError> {
     for row in LOGS.split("==\n") {

@@ -90,6 +90,7 @@ fn exit_words(code: u8) -> &'static [u8] {
         4 => b"exit 4 ",
         5 => b"exit 5 ",
         6 => b"exit 6 ",
+        7 => b"exit 7 ",
         8 => b"exit 8 ",
         _ => b"exit ? ",
     }

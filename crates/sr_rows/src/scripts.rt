@@ -36,8 +36,8 @@ const NOT_TOML: &str = "exit 2 silkroad: script: not-toml\n";
 
 const TOO_LONG: &str = "exit 2 silkroad: script: text-too-long\n";
 
-// The scene with one text put in the place of another.
-fn scene_with(alloc: Global, old: &str, new: &str) -> Result<Vec<u8>, AllocError> {
+/// The scene with one text put in the place of another.
+pub fn scene_with(alloc: Global, old: &str, new: &str) -> Result<Vec<u8>, AllocError> {
     let (front, back) = SCENE.split_once(old).unwrap_or(("", ""));
     let mut script = Vec::from_slice(alloc, front.as_bytes())?;
     script.extend_from_slice(new.as_bytes())?;

@@ -24,7 +24,14 @@ replay|-x
 make|1|0
 make|+1|5
 make|1|4194305
-make|18446744073709551616|1";
+make|18446744073709551616|1
+steps
+steps|scene
+steps|scene|-1
+steps|scene|+1
+steps|scene|18446744073709551616
+steps|scene|1|2
+steps|-x|1";
 
 const USAGE: &str =
     "exit 1 silkroad: usage: one VIP SERVERS, replay SCRIPT, audit SCRIPT, make N PACKETS, demo N, steps SCRIPT SEED\n";

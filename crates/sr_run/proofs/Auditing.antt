@@ -1,7 +1,7 @@
 -- What each status of the command `audit` says, put together from its parts.
-use Rattle.std.proofs.Common.{◌≡◌, ℕ, ◌≤◌, List, [], length, Option, Some, None, Result, Ok, Err, refl, sym, ap, ◌∙◌, subst, inl, inr}
+use Rattle.std.proofs.Common.{◌≡◌, ℕ, ◌≤◌, List, [], length, Option, Some, None, Result, Ok, Err, refl, sym, subst, inl, inr}
 use Rattle.sr_frame.specs.declared.skip.Skip.{Skip}
-use Rattle.sr_io.specs.Faults.{Rose, Counts}
+use Rattle.sr_io.specs.Faults.{Counts}
 use Rattle.sr_io.specs.Shelf.{Fetches as ShelfFetches}
 use Rattle.sr_io.specs.Sink.{SinkKnown, Adds}
 use Rattle.sr_io.specs.Source.{SourceKnown}
@@ -12,13 +12,12 @@ use Rattle.sr_script.specs.declared.script.Script.{Script as AScript}
 use Rattle.sr_script.specs.declared.refusal.ScriptRefusal.{ScriptRefusal}
 use Rattle.sr_script.specs.declared.why.Why.TheVariants.{TextTooLong}
 use Rattle.sr_script.specs.Fault.{Fault, fault_of}
-use Rattle.sr_script.specs.Script.{spelled}
 use Rattle.sr_script.specs.Spelled.{Spelled}
 use Rattle.sr_text.specs.declared.log_refusal.LogRefusal.{LogRefusal}
 use Rattle.sr_text.specs.declared.log_refusal.LogRefusal.TheVariants as log
 use Rattle.sr_text.specs.Log.{Reads}
 use Rattle.sr_run.specs.Audit.{AnswersOfLog, IsText, AuditsLog, AuditSays, EndsAudit, EndsLog}
-use Rattle.sr_run.specs.Outside.{Outside, TellsFaults, WritesNothing, outside}
+use Rattle.sr_run.specs.Outside.{Outside, WritesNothing}
 use Rattle.sr_run.specs.ScriptText.{IsScript, IsNoScript, Fetches, IsReady, too_long}
 use Rattle.sr_run.specs.Status.{status_of_log}
 use Rattle.sr_run.specs.declared.status.Status.{Status}

@@ -6,7 +6,7 @@ use Rattle.std.specs.List.{list_any, slice_split}
 use Rattle.std.proofs.lemmas.Bool.{and_parts}
 use Rattle.std.proofs.lemmas.Option.{cond_some}
 use Rattle.sr_script.specs.Address.{address_of}
-use Rattle.sr_run.specs.Command.{Command, One, Make, Audit, IsInRange, begins_with_dash, command_of, command_of_plain, make_of, one_of}
+use Rattle.sr_run.specs.Command.{Command, One, Make, Audit, Steps, IsInRange, begins_with_dash, command_of, command_of_plain, make_of, one_of, steps_of}
 use Rattle.sr_run.specs.Numbers.{count_of_packets, number_of, packets_in}
 use Rattle.sr_run.specs.Servers.{addresses_of, all_differ, counted, count_of_servers}
 
@@ -52,6 +52,10 @@ make_some (Some n) (Some p) c some e = let same : Make n p ≡ c = cc in subst I
 audit_some : (script : List ℕ) (c : Command) → Some (Audit script) ≡ Some c → IsInRange c
 audit_some script c e = let same : Audit script ≡ c = cc in subst IsInRange same tt
 
+steps_some : (script : List ℕ) (seed : Option ℕ) (c : Command) → option_map (λ n. Steps script n) seed ≡ Some c → IsInRange c
+steps_some script None c e = absurd cc
+steps_some script (Some n) c e = let same : Steps script n ≡ c = cc in subst IsInRange same tt
+
 either_some : (test : Bool) (a b : Option Command) (c : Command) → ((d : Command) → a ≡ Some d → IsInRange d) → ((d : Command) → b ≡ Some d → IsInRange d) → cond test a b ≡ Some c → IsInRange c
 either_some true a b c first second e = first c e
 either_some false a b c first second e = second c e
@@ -63,7 +67,7 @@ plain_some (name ∷ script ∷ []) c e = either_some (bytes_eq name (codes "aud
 plain_some (name ∷ first ∷ second ∷ []) c e =
     either_some (bytes_eq name (codes "one")) (one_of first second) _ c
     (λ d f. one_some (address_of first) (count_of_servers second) d (count_some second) f)
-    (λ d f. either_some (bytes_eq name (codes "make")) (make_of first second) None d (λ h k. make_some (number_of first) (count_of_packets second) h (count_packets second) k) (λ h k. absurd cc) f) e
+    (λ d f. either_some (bytes_eq name (codes "make")) (make_of first second) _ d (λ h k. make_some (number_of first) (count_of_packets second) h (count_packets second) k) (λ h k. either_some (bytes_eq name (codes "steps")) (steps_of first second) None h (λ i m. steps_some first (number_of second) i m) (λ i m. absurd cc) k) f) e
 plain_some (name ∷ first ∷ second ∷ fourth ∷ rest) c e = absurd cc
 
 pub command_some : (words : List (List ℕ)) (c : Command) → command_of words ≡ Some c → IsInRange c

@@ -1,5 +1,5 @@
 -- The lines of the command `one` are lawful: every connection has pool 1, each line names its choice, ticks rise, and each packet has its line.
-use Rattle.std.proofs.Common.{◌≡◌, ℕ, zero, suc, ◌+◌, ◌<◌, ◌≤◌, Bool, true, false, cond, not, ◌||◌, ◌&&◌, ◌==◌, List, [], ◌∷◌, ◌++◌, length, take, drop, reverse, Option, Some, None, refl, sym, ap, ◌∙◌, subst, append_assoc, append-nil, Result, Ok, Err, arith}
+use Rattle.std.proofs.Common.{◌≡◌, ℕ, zero, suc, ◌+◌, ◌<◌, ◌≤◌, Bool, true, false, cond, not, ◌||◌, ◌&&◌, ◌==◌, List, [], ◌∷◌, ◌++◌, length, take, reverse, Option, Some, None, refl, sym, ap, ◌∙◌, subst, append_assoc, append-nil, Ok, arith}
 use Rattle.std.specs.Prelude.{slice_get, slice_index, nat_le, nat_lt, option_map, count_by}
 use Rattle.std.specs.List.{range_with_len, list_any, list_all}
 use Rattle.std.specs.Option.{option_or}
@@ -34,7 +34,7 @@ use Rattle.sr_law.specs.Server.{meets_server, is_number}
 use Rattle.sr_law.specs.Setup.{SetupView}
 use Rattle.sr_law.specs.Taken.{keeps_places}
 use Rattle.sr_law.specs.TakenDown.{is_known_down}
-use Rattle.sr_law.specs.Ticks.{lines_before, out_of, start_of}
+use Rattle.sr_law.specs.Ticks.{out_of, start_of}
 use Rattle.sr_law.proofs.Clauses.{none_broken}
 use Rattle.sr_law.proofs.Kept.{kept}
 use Rattle.sr_law.proofs.Switches.{newer}

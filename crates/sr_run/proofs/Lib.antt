@@ -9,4 +9,5 @@ mod Parts
 mod PrintedLines
 mod Running
 mod Sorting
+mod Stepping
 mod Writing

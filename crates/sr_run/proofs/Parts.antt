@@ -12,7 +12,7 @@ use Rattle.clap.specs.declared.builder.command.Command.{Command}
 use Rattle.clap.specs.declared.parser.matches.Found.{Found}
 use Rattle.clap.proofs.WalkLemmas.{first_value-rows}
 use Rattle.clap.proofs.OnLiterals.{clap_on_literals}
-use Rattle.sr_run.specs.Command.{IsCommand, begins_with_dash, command_of, command_of_plain, command_of_two, command_of_three, Audit, make_of, one_of}
+use Rattle.sr_run.specs.Command.{IsCommand, begins_with_dash, command_of, command_of_plain, command_of_two, command_of_three, Audit, make_of, one_of, steps_of}
 use Rattle.sr_run.specs.Parting.{before, command_of_form, form_of, parts_of, program, texts, values_of, with_arguments, with_forms}
 
 -- the library takes these words, and its parts are the words
@@ -55,6 +55,22 @@ make_same [] (y ∷ second) e f = simp f
 make_same (x ∷ first) [] e f = simp e
 make_same (x ∷ first) (y ∷ second) e f = simp (e, f)
 
+steps_taken : (first second : List ℕ) → begins_with_dash first ≡ false → begins_with_dash second ≡ false
+    → takes program (codes "steps" ∷ first ∷ second ∷ []) ≡ true
+unfolding clap_on_literals
+steps_taken [] [] e f = refl
+steps_taken [] (y ∷ second) e f = simp f
+steps_taken (x ∷ first) [] e f = simp e
+steps_taken (x ∷ first) (y ∷ second) e f = simp (e, f)
+
+steps_same : (first second : List ℕ) → begins_with_dash first ≡ false → begins_with_dash second ≡ false
+    → parts_of (subcommand_of program (codes "steps" ∷ first ∷ second ∷ [])) ≡ codes "steps" ∷ first ∷ second ∷ []
+unfolding clap_on_literals
+steps_same [] [] e f = refl
+steps_same [] (y ∷ second) e f = simp f
+steps_same (x ∷ first) [] e f = simp e
+steps_same (x ∷ first) (y ∷ second) e f = simp (e, f)
+
 audit_taken : (script : List ℕ) → begins_with_dash script ≡ false → takes program (codes "audit" ∷ script ∷ []) ≡ true
 unfolding clap_on_literals
 audit_taken [] e = refl
@@ -76,6 +92,9 @@ one_parts first second e f = record { taken = one_taken first second e f; same =
 make_parts : (first second : List ℕ) → begins_with_dash first ≡ false → begins_with_dash second ≡ false → Parts (codes "make" ∷ first ∷ second ∷ [])
 make_parts first second e f = record { taken = make_taken first second e f; same = make_same first second e f }
 
+steps_parts : (first second : List ℕ) → begins_with_dash first ≡ false → begins_with_dash second ≡ false → Parts (codes "steps" ∷ first ∷ second ∷ [])
+steps_parts first second e f = record { taken = steps_taken first second e f; same = steps_same first second e f }
+
 -- the name is that of the command
 named : (name known : List ℕ) (arguments : List (List ℕ)) → bytes_eq name known ≡ true → Parts (known ∷ arguments) → Parts (name ∷ arguments)
 named name known arguments e parts = subst (λ n. Parts (n ∷ arguments)) (sym ((bytes_eq-Decides name known).0 e)) parts
@@ -91,11 +110,17 @@ three_parts : (name first second : List ℕ) → begins_with_dash first ≡ fals
     → IsSome (command_of_three name first second) → Parts (name ∷ first ∷ second ∷ [])
 three_parts name first second e f some = is_one (bytes_eq name (codes "one")) refl some
   where
-    is_make : (b : Bool) → bytes_eq name (codes "make") ≡ b → IsSome (cond b (make_of first second) None) → Parts (name ∷ first ∷ second ∷ [])
-    is_make true same some = named name (codes "make") (first ∷ second ∷ []) same (make_parts first second e f)
-    is_make false other some = absurd (false≢true some)
+    is_steps : (b : Bool) → bytes_eq name (codes "steps") ≡ b → IsSome (cond b (steps_of first second) None) → Parts (name ∷ first ∷ second ∷ [])
+    is_steps true same some = named name (codes "steps") (first ∷ second ∷ []) same (steps_parts first second e f)
+    is_steps false other some = absurd (false≢true some)
 
-    is_one : (b : Bool) → bytes_eq name (codes "one") ≡ b → IsSome (cond b (one_of first second) (cond (bytes_eq name (codes "make")) (make_of first second) None)) → Parts (name ∷ first ∷ second ∷ [])
+    is_make : (b : Bool) → bytes_eq name (codes "make") ≡ b
+        → IsSome (cond b (make_of first second) (cond (bytes_eq name (codes "steps")) (steps_of first second) None)) → Parts (name ∷ first ∷ second ∷ [])
+    is_make true same some = named name (codes "make") (first ∷ second ∷ []) same (make_parts first second e f)
+    is_make false other some = is_steps (bytes_eq name (codes "steps")) refl some
+
+    is_one : (b : Bool) → bytes_eq name (codes "one") ≡ b → IsSome (cond b (one_of first second)
+        (cond (bytes_eq name (codes "make")) (make_of first second) (cond (bytes_eq name (codes "steps")) (steps_of first second) None))) → Parts (name ∷ first ∷ second ∷ [])
     is_one true same some = named name (codes "one") (first ∷ second ∷ []) same (one_parts first second e f)
     is_one false other some = is_make (bytes_eq name (codes "make")) refl some
 

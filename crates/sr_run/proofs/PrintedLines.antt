@@ -5,6 +5,7 @@ use Rattle.std.proofs.lemmas.List.{at_drop_more}
 use Rattle.sr_base.specs.declared.packet.Packet.{Packet}
 use Rattle.sr_frame.specs.declared.skip.Skip.{Skip}
 use Rattle.sr_frame.specs.declared.skip.Skip.TheVariants.{NotIpv4}
+use Rattle.sr_law.specs.declared.line.Line.{Line}
 use Rattle.sr_text.specs.LineText.{line_text, skip_text}
 use Rattle.sr_run.specs.One.{packet_line, packet_lines}
 use Rattle.sr_run.specs.Status.{path_words}
@@ -19,6 +20,11 @@ pub packets_step : (servers tick : ℕ) (packets : List Packet) (i : ℕ) (packe
 packets_step servers tick packets i packet below here =
     at_drop_more (λ left. flat_map line_text (packet_lines servers tick left)) packets i packet below
     ∙ ap (λ p. line_text (packet_line servers tick p) ++ flat_map line_text (packet_lines servers (tick + 2) (drop (i + 1) packets))) (sym here)
+
+pub lines_step : (lines : List Line) (i : ℕ) (line : Line) → i < length lines → line ≡ get_or lines i line
+    → flat_map line_text (drop i lines) ≡ line_text line ++ flat_map line_text (drop (i + 1) lines)
+lines_step lines i line below here =
+    at_drop_more (flat_map line_text) lines i line below ∙ ap (λ l. line_text l ++ flat_map line_text (drop (i + 1) lines)) (sym here)
 
 pub path_some : (path : List ℕ) → 1 ≤ length path → path_words path ≡ (32 ∷ path) ++ 10 ∷ []
 path_some [] some = absurd (omega arith)

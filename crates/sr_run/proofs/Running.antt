@@ -1,5 +1,5 @@
 -- From what was read and printed to what a run of `one` says.
-use Rattle.std.proofs.Common.{◌≡◌, ℕ, ◌≤◌, List, [], ◌∷◌, Option, Some, None, Ok, Err, inl, inr, refl, sym, ap, ◌∙◌, subst}
+use Rattle.std.proofs.Common.{◌≡◌, ℕ, ◌≤◌, List, [], ◌∷◌, Option, Ok, Err, inl, inr, refl, sym, ap, ◌∙◌, subst}
 use Rattle.sr_io.specs.Sink.{SinkKnown, Adds, Writes}
 use Rattle.sr_io.specs.Source.{SourceKnown}
 use Rattle.sr_io.specs.declared.sink.Put.TheVariants as put

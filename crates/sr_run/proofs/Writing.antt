@@ -1,6 +1,6 @@
 -- Printing a log in its four parts, and then a flush.
-use Rattle.std.proofs.Common.{List, ℕ, [], ◌++◌, append-nil, subst, Result, Ok, Err}
-use Rattle.sr_io.specs.Sink.{SinkKnown, Writes, put_of}
+use Rattle.std.proofs.Common.{List, ℕ, [], ◌++◌, append-nil, subst}
+use Rattle.sr_io.specs.Sink.{SinkKnown, Writes}
 use Rattle.sr_io.specs.declared.sink.Put.{Put}
 use Rattle.sr_io.specs.declared.sink.Put.TheVariants.{All, Failed}
 use Rattle.sr_io.proofs.Writing.{writes_then, writes_front}
@@ -35,3 +35,12 @@ pub flushed : {a b c d e f : SinkKnown} (put : Put) (head skips opening lines : 
     → Writes put a f (head ++ (skips ++ (opening ++ lines)))
 flushed put head skips opening lines first second third fourth last =
     then_flushed put (head ++ (skips ++ (opening ++ lines))) (whole_log head skips opening lines first second third fourth) last
+
+-- A log whose lines are printed as one part.
+pub fails_in_lines : {a b c d : SinkKnown} (head skips lines : List ℕ) → Writes All a b head → Writes All b c skips → Writes Failed c d lines → Writes Failed a d (head ++ (skips ++ lines))
+fails_in_lines head skips lines first second front = writes_then Failed head (skips ++ lines) first (writes_then Failed skips lines second front)
+
+pub log_flushed : {a b c d e : SinkKnown} (put : Put) (head skips lines : List ℕ) → Writes All a b head → Writes All b c skips → Writes All c d lines → Writes put d e []
+    → Writes put a e (head ++ (skips ++ lines))
+log_flushed put head skips lines first second third last =
+    then_flushed put (head ++ (skips ++ lines)) (writes_then All head (skips ++ lines) first (writes_then All skips lines second third)) last

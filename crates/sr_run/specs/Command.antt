@@ -9,11 +9,13 @@ use Rattle.sr_run.specs.Servers.{count_of_servers}
 use Rattle.sr_run.specs.declared.command.Command.{Command as Read}
 use Rattle.sr_run.specs.declared.command.Command.TheVariants as read
 
--- what the words ask for: an address, and how many servers share it; a number, and how many packets; the name of a script
+-- what the words ask for: an address, and how many servers share it; a number, and how many packets; the name of a script, and
+-- with it the seed of a run's picks
 pub data Command : Type 0 where
   One : ℕ × ℕ → ℕ → Command
   Make : ℕ → ℕ → Command
   Audit : List ℕ → Command
+  Steps : List ℕ → ℕ → Command
 
 -- one VIP SERVERS
 abbrev pub one_of : List ℕ → List ℕ → Option Command
@@ -23,6 +25,10 @@ one_of vip servers = option_and_then (λ v. option_map (λ n. One v n) (count_of
 abbrev pub make_of : List ℕ → List ℕ → Option Command
 make_of number packets = option_and_then (λ n. option_map (λ p. Make n p) (count_of_packets packets)) (number_of number)
 
+-- steps SCRIPT SEED
+abbrev pub steps_of : List ℕ → List ℕ → Option Command
+steps_of script seed = option_map (λ n. Steps script n) (number_of seed)
+
 -- the command of two words: audit SCRIPT
 abbrev pub command_of_two : List ℕ → List ℕ → Option Command
 command_of_two name script = if bytes_eq name (codes "audit") then Some (Audit script) else None
@@ -31,7 +37,8 @@ command_of_two name script = if bytes_eq name (codes "audit") then Some (Audit s
 abbrev pub command_of_three : List ℕ → List ℕ → List ℕ → Option Command
 command_of_three name first second =
     if bytes_eq name (codes "one") then one_of first second
-    else (if bytes_eq name (codes "make") then make_of first second else None)
+    else (if bytes_eq name (codes "make") then make_of first second else
+    (if bytes_eq name (codes "steps") then steps_of first second else None))
 
 -- the command of words none of which begins with `-`
 abbrev pub command_of_plain : List (List ℕ) → Option Command
@@ -57,9 +64,11 @@ abbrev pub seen : Read → Command
 seen (read.One vip servers) = One vip servers
 seen (read.Make number packets) = Make number packets
 seen (read.Audit script) = Audit script.now
+seen (read.Steps script seed) = Steps script.now seed
 
 -- its numbers are in range: it has a server; it has packets, and no more than a capture may have
 abbrev pub IsInRange : Command → Type 0
 IsInRange (One vip servers) = 1 ≤ servers
 IsInRange (Make number packets) = (1 ≤ packets) × (packets ≤ most_packets)
 IsInRange (Audit script) = Unit {0}
+IsInRange (Steps script seed) = Unit {0}

@@ -12,3 +12,4 @@ pub mod Printing
 pub mod ScriptText
 pub mod Servers
 pub mod Status
+pub mod Steps

@@ -1,5 +1,5 @@
 -- What the command `make` does.
-use Rattle.std.specs.Prelude.{ℕ, List, []}
+use Rattle.std.specs.Prelude.{ℕ, []}
 use Rattle.sr_gen.specs.Capture.{capture_of}
 use Rattle.sr_io.specs.Sink.{SinkKnown, Adds, AddsFront}
 use Rattle.sr_run.specs.declared.status.Status.{Status}

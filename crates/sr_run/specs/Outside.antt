@@ -1,5 +1,5 @@
 -- The outside of a run: what is known of it before and after.
-use Rattle.std.specs.Prelude.{◌≡◌, ◌⊎◌, ◌≤◌, [], Option}
+use Rattle.std.specs.Prelude.{◌≡◌, ◌⊎◌, ◌≤◌, []}
 use Rattle.sr_io.specs.Faults.{Rose, Counts}
 use Rattle.sr_io.specs.Shelf.{ShelfKnown}
 use Rattle.sr_io.specs.Sink.{SinkKnown, Adds}

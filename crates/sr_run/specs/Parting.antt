@@ -11,6 +11,7 @@ forms =
     (codes "one", codes "VIP" ∷ codes "SERVERS" ∷ [])
     ∷ (codes "make", codes "N" ∷ codes "PACKETS" ∷ [])
     ∷ (codes "audit", codes "SCRIPT" ∷ [])
+    ∷ (codes "steps", codes "SCRIPT" ∷ codes "SEED" ∷ [])
     ∷ []
 
 -- the texts behind references

@@ -1,6 +1,6 @@
 ghost use Rattle.std.specs.Prelude.{◌≡◌, IfOk, IfSome, map, option_map, string_bytes};
 ghost use Rattle.std.specs.List.{list_any};
-ghost use Rattle.sr_run.specs.Command.{IsInRange, begins_with_dash, command_of, command_of_plain, make_of, one_of, seen};
+ghost use Rattle.sr_run.specs.Command.{IsInRange, begins_with_dash, command_of, command_of_plain, command_of_three, command_of_two, make_of, one_of, seen, steps_of};
 ghost use Rattle.sr_run.specs.Parting.{texts};
 
 use crate::numbers::{count_of_packets, number_of};
@@ -30,6 +30,13 @@ pub(crate) enum Command<'a> {
     Audit {
         /// The name of the script.
         script: &'a str,
+    },
+    /// A script, a capture and a seed: `steps SCRIPT SEED`.
+    Steps {
+        /// The name of the script.
+        script: &'a str,
+        /// What the picks begin with.
+        seed: u64,
     },
 }
 
@@ -100,23 +107,42 @@ fn command_of_plain<'a>(alloc: Global, words: &[&'a str]) -> Result<Option<Comma
     ensures some { IfOk result (λ c. IfSome c (λ x. IsInRange (seen x))) }
 {
     match words {
-        [name, script] => {
-            if *name == "audit" {
-                Ok(Some(Command::Audit { script: *script }))
-            } else {
-                Ok(None)
-            }
-        }
-        [name, first, second] => {
-            if *name == "one" {
-                read_one(alloc, *first, *second)
-            } else if *name == "make" {
-                Ok(read_make(*first, *second))
-            } else {
-                Ok(None)
-            }
-        }
+        [name, script] => Ok(command_of_two(*name, *script)),
+        [name, first, second] => command_of_three(alloc, *name, *first, *second),
         _ => Ok(None),
+    }
+}
+
+// The command of this name and one more word.
+fn command_of_two<'a>(name: &str, script: &'a str) -> Option<Command<'a>>
+    ensures value { option_map seen result ≡ command_of_two name.now script.now }
+    ensures some { IfSome result (λ x. IsInRange (seen x)) }
+{
+    if name == "audit" {
+        Some(Command::Audit { script })
+    } else {
+        None
+    }
+}
+
+// The command of this name and two more words.
+fn command_of_three<'a>(
+    alloc: Global,
+    name: &str,
+    first: &'a str,
+    second: &str,
+) -> Result<Option<Command<'a>>, AllocError>
+    ensures value { IfOk result (λ c. option_map seen c ≡ command_of_three name.now first.now second.now) }
+    ensures some { IfOk result (λ c. IfSome c (λ x. IsInRange (seen x))) }
+{
+    if name == "one" {
+        read_one(alloc, first, second)
+    } else if name == "make" {
+        Ok(read_make(first, second))
+    } else if name == "steps" {
+        Ok(read_steps(first, second))
+    } else {
+        Ok(None)
     }
 }
 
@@ -142,4 +168,13 @@ fn read_make<'a>(number: &str, packets: &str) -> Option<Command<'a>>
     let number = number_of(number)?;
     let packets = count_of_packets(packets)?;
     Some(Command::Make { number, packets })
+}
+
+// The command `steps` with these words.
+fn read_steps<'a>(script: &'a str, seed: &str) -> Option<Command<'a>>
+    ensures value { option_map seen result ≡ steps_of script.now seed.now }
+    ensures some { IfSome result (λ x. IsInRange (seen x)) }
+{
+    let seed = number_of(seed)?;
+    Some(Command::Steps { script, seed })
 }

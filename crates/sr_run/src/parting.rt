@@ -11,10 +11,11 @@ use std::alloc::{AllocError, Global};
 type Form = (&'static str, &'static [&'static str]);
 
 // The commands.
-const FORMS: [Form; 3] = [
+const FORMS: [Form; 4] = [
     ("one", &["VIP", "SERVERS"]),
     ("make", &["N", "PACKETS"]),
     ("audit", &["SCRIPT"]),
+    ("steps", &["SCRIPT", "SEED"]),
 ];
 
 /// Parts the words of a command: its name, and then the text of each of its arguments. Any error is want of memory.

@@ -31,8 +31,8 @@ pub(crate) fn print_log<K: Sink>(
     sink.flush().ok()
 }
 
-// Prints the skipped records.
-fn print_skips<K: Sink>(skips: &[(u32, Skip)], sink: &mut K) -> Result<(), WriteFault>
+/// Prints the skipped records.
+pub(crate) fn print_skips<K: Sink>(skips: &[(u32, Skip)], sink: &mut K) -> Result<(), WriteFault>
     ensures { Writes (put_of result) (K.known sink.old) (K.known sink.new) (flat_map skip_text skips.now) }
 {
     for skip in skips {

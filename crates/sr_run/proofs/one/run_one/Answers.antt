@@ -1,8 +1,6 @@
-use Rattle.std.proofs.Common.{ap, sym, subst, ◌∙◌}
-use Rattle.sr_io.proofs.Counting.{counts_as, counts_none}
-use Rattle.sr_run.specs.One.{EndsOne, OneSays}
-use Rattle.sr_run.specs.Outside.{WritesNothing}
-use Rattle.sr_run.proofs.Running.{says_read, says_unread, ends_unread, quiet_unread, not_written, fault_unread}
+use Rattle.std.proofs.Common.{sym, subst}
+use Rattle.sr_run.specs.One.{OneSays}
+use Rattle.sr_run.proofs.Running.{says_read, says_unread}
 use Rattle.sr_run.proofs.one.run_one.Goals as goal
 
 pub returns-in-Ok-clause-says : goal.returns-in-Ok-clause-says

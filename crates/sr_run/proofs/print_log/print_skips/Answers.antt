@@ -1,7 +1,6 @@
 use Rattle.std.proofs.Common.{◌+◌, drop, sym, subst}
 use Rattle.std.specs.List.{flat_map}
 use Rattle.std.proofs.lemmas.Result.{err_from_is_err_and}
-use Rattle.sr_frame.specs.declared.skip.Skip.TheVariants.{NotIpv4}
 use Rattle.sr_io.specs.Sink.{Writes, put_of}
 use Rattle.sr_text.specs.LineText.{skip_text}
 use Rattle.sr_io.proofs.Writing.{Wrote, wrote_more, wrote_failed}

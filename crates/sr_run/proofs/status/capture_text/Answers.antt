@@ -1,6 +1,5 @@
 use Rattle.std.proofs.Common.{◌++◌, codes, subst, ap, ◌∙◌}
 use Rattle.sr_io.specs.Sink.{Writes}
-use Rattle.sr_io.specs.declared.sink.Put.TheVariants.{All, Failed}
 use Rattle.sr_run.specs.Status.{status_text, capture_words}
 use Rattle.sr_run.proofs.status.capture_text.Goals as goal
 

@@ -1,7 +1,7 @@
 use Rattle.std.proofs.Common.{[], ◌∷◌, arith, subst, sym}
 use Rattle.sr_io.proofs.Writing.{writes_front, writes_then}
 use Rattle.sr_io.specs.Sink.{Writes}
-use Rattle.sr_io.specs.declared.sink.Put.TheVariants.{All, Failed}
+use Rattle.sr_io.specs.declared.sink.Put.TheVariants.{Failed}
 use Rattle.sr_run.proofs.PrintedLines.{path_some}
 use Rattle.sr_run.proofs.status.path_text.Goals as goal
 

@@ -1,0 +1,235 @@
+//! Captures that are played by a script, step by step: over the narrow scene, and over the same with eight pipes and a change.
+use crate::audit::{SCENE, is_lawful};
+use crate::bytes::capture;
+use crate::play::{READ_FAULT, Row, first_run, is_cut_short, row_of, told_over, told_with};
+use crate::scripts::scene_with;
+use sr_io::{MemShelf, MemSink};
+use std::alloc::{AllocError, Global};
+use std::test::Fail;
+use std::thread::Threads;
+
+// Words and captures, and then what is told. The ticks are those of a model of one connection over this scene, made for these rows.
+const ROWS: &str = "steps|scene|1
+raw syn data
+silkroad 1
+give 1 0 0 1
+packet 1 2 3 0 0/10.0.0.9:4000 open to 0 0 1
+reserve 4 0/10.0.0.9:4000 w1b0c0
+place 7 0/10.0.0.9:4000 w1b0c0
+packet 2 6 9 0 0/10.0.0.9:4000 data to 0 0 1
+exit 0
+==
+steps|scene|7
+raw syn data
+silkroad 1
+give 1 0 0 1
+packet 1 2 3 0 0/10.0.0.9:4000 open to 0 0 1
+reserve 5 0/10.0.0.9:4000 w1b0c0
+packet 2 4 7 0 0/10.0.0.9:4000 data to 0 0 1
+place 8 0/10.0.0.9:4000 w1b0c0
+exit 0
+==
+steps|scene|18446744073709551615
+raw 9=17 19=2
+silkroad 1
+skip 1 nottcp
+skip 2 notvip
+give 1 0 0 1
+exit 0
+==
+steps|scene|1
+raw syn 0=79 0=68
+silkroad 1
+skip 2 short
+skip 3 short
+give 1 0 0 1
+packet 1 2 3 0 0/10.0.0.9:4000 open to 0 0 1
+reserve 4 0/10.0.0.9:4000 w1b0c0
+place 6 0/10.0.0.9:4000 w1b0c0
+exit 0
+==
+steps|scene|1
+header 0=213
+exit 3 silkroad: capture: magic
+";
+
+// What is printed of the first row.
+const FIRST_LOG: &str = "silkroad 1
+give 1 0 0 1
+packet 1 2 3 0 0/10.0.0.9:4000 open to 0 0 1
+reserve 4 0/10.0.0.9:4000 w1b0c0
+place 7 0/10.0.0.9:4000 w1b0c0
+packet 2 6 9 0 0/10.0.0.9:4000 data to 0 0 1
+";
+
+// What is told of it without its last byte: the whole record before was played.
+const CUT_TOLD: &str = "silkroad 1
+give 1 0 0 1
+packet 1 2 3 0 0/10.0.0.9:4000 open to 0 0 1
+reserve 4 0/10.0.0.9:4000 w1b0c0
+place 6 0/10.0.0.9:4000 w1b0c0
+exit 3 silkroad: capture: cut at 80
+";
+
+const NO_SERVER: &str = "exit 2 silkroad: script: no-such-server vip[0].pool[0]\n";
+
+// Six openers on six of eight pipes, of which four find a row; the fifth in the order of the pipes is waited for.
+const SIX: &str = "raw 15=9 15=10 15=11 15=12 15=13 15=14";
+
+const CHANGE: &str = "[[change]]\nat_ms = 0\nvip = 0\npool = [1]\n";
+
+const WAITING: &[u8] = b"exit 7 silkroad: waiting for 0/10.0.0.12:4000\n";
+
+const SEEDS: &str = "steps|scene|1
+steps|scene|2
+steps|scene|3
+steps|scene|4
+steps|scene|5
+steps|scene|6
+steps|scene|7
+steps|scene|8";
+
+// The words, over a capture in pieces.
+fn steps_row<'a>(words: &'a str, input: &'a [u8]) -> Row<'a> {
+    Row {
+        words,
+        ..row_of(input, 7)
+    }
+}
+
+// The first row of which something else is told. Empty where there is none.
+fn mistold<R: Threads + Sync>(rt: &R, alloc: Global) -> Result<&'static str, AllocError> {
+    for row in ROWS.split("==\n") {
+        let (words, rest) = row.split_once('\n').unwrap_or((row, ""));
+        let (segments, wanted) = rest.split_once('\n').unwrap_or((rest, ""));
+        let input = capture(alloc, segments)?;
+        let told = told_with(rt, alloc, steps_row(words, &input), SCENE.as_bytes())?;
+        if told.bytes() != wanted.as_bytes() {
+            return Ok(row);
+        }
+    }
+    Ok("")
+}
+
+#[test]
+fn captures(rt: HostRuntime) -> Result<(), Fail> {
+    assert_eq!(rt; mistold(&rt, rt.alloc())?, "");
+    Ok(())
+}
+
+// Whether the first record alone is played of a capture whose second is cut.
+fn tells_cut<R: Threads + Sync>(rt: &R, alloc: Global) -> Result<bool, AllocError> {
+    let input = first_run(alloc)?;
+    let cut = &input[..input.len().saturating_sub(1)];
+    let told = told_with(rt, alloc, steps_row("steps|scene|1", cut), SCENE.as_bytes())?;
+    Ok(told.bytes() == CUT_TOLD.as_bytes())
+}
+
+// Whether a refused script is told, of a capture that is refused too.
+fn tells_script<R: Threads + Sync>(rt: &R, alloc: Global) -> Result<bool, AllocError> {
+    let script = scene_with(alloc, "pool = [0]", "pool = [2]")?;
+    let told = told_with(rt, alloc, steps_row("steps|scene|1", &[]), &script)?;
+    Ok(told.bytes() == NO_SERVER.as_bytes())
+}
+
+#[test]
+fn refusals(rt: HostRuntime) -> Result<(), Fail> {
+    assert!(rt; tells_cut(&rt, rt.alloc())?, "a record is cut");
+    assert!(rt; tells_script(&rt, rt.alloc())?, "a script is refused");
+    Ok(())
+}
+
+// Whether a shelf without the script is a read fault.
+fn lacks_script<R: Threads + Sync>(rt: &R, alloc: Global) -> Result<bool, AllocError> {
+    let mut none = MemShelf::new(Vec::new(alloc), Vec::new(alloc));
+    let input = first_run(alloc)?;
+    let told = told_over(rt, alloc, steps_row("steps|scene|1", &input), &mut none)?;
+    Ok(told.bytes() == READ_FAULT.as_bytes())
+}
+
+// Whether the second read's fault is told.
+fn tells_read_fault<R: Threads + Sync>(rt: &R, alloc: Global) -> Result<bool, AllocError> {
+    let input = first_run(alloc)?;
+    let row = Row {
+        read_fails: 2,
+        ..steps_row("steps|scene|1", &input)
+    };
+    let told = told_with(rt, alloc, row, SCENE.as_bytes())?;
+    Ok(told.bytes() == READ_FAULT.as_bytes())
+}
+
+// The sink takes the head and five lines, and is flushed. The first call whose fault isn't told.
+fn passed_over_write<R: Threads + Sync>(rt: &R, alloc: Global) -> Result<Option<u64>, AllocError> {
+    let input = first_run(alloc)?;
+    for k in 1..=7 {
+        let row = Row {
+            write_fails: k,
+            ..steps_row("steps|scene|1", &input)
+        };
+        let told = told_with(rt, alloc, row, SCENE.as_bytes())?;
+        if !is_cut_short(told.bytes(), FIRST_LOG) {
+            return Ok(Some(k));
+        }
+    }
+    Ok(None)
+}
+
+#[test]
+fn devices(rt: HostRuntime) -> Result<(), Fail> {
+    assert!(rt; lacks_script(&rt, rt.alloc())?, "no script");
+    assert!(rt; tells_read_fault(&rt, rt.alloc())?, "a read fails");
+    assert_eq!(rt; passed_over_write(&rt, rt.alloc())?, None, "a write fails");
+    Ok(())
+}
+
+// The scene with eight pipes, and a change that is due at once.
+fn wide_scene(alloc: Global) -> Result<Vec<u8>, AllocError> {
+    let mut script = scene_with(alloc, "pipes = 1", "pipes = 8")?;
+    script.extend_from_slice(CHANGE.as_bytes())?;
+    Ok(script)
+}
+
+// What is told of six openers with these words.
+fn told_of_six<R: Threads + Sync>(
+    rt: &R,
+    alloc: Global,
+    words: &str,
+    script: &[u8],
+) -> Result<MemSink, AllocError> {
+    let input = capture(alloc, SIX)?;
+    told_with(rt, alloc, steps_row(words, &input), script)
+}
+
+// Whether the opener of a key without a place is waited for.
+fn waits<R: Threads + Sync>(rt: &R, alloc: Global) -> Result<bool, AllocError> {
+    let script = wide_scene(alloc)?;
+    let told = told_of_six(rt, alloc, "steps|scene|2", &script)?;
+    Ok(told.bytes().ends_with(WAITING))
+}
+
+// What was printed, of what is told.
+fn log_of(told: &[u8]) -> &[u8] {
+    match told.windows(5).position(|part| part == b"exit ".as_slice()) {
+        Some(at) => &told[..at],
+        None => told,
+    }
+}
+
+// The words of the first run whose log isn't lawful. Empty where there is none.
+fn unlawful<R: Threads + Sync>(rt: &R, alloc: Global) -> Result<&'static str, AllocError> {
+    let script = wide_scene(alloc)?;
+    for words in SEEDS.split('\n') {
+        let told = told_of_six(rt, alloc, words, &script)?;
+        if !is_lawful(rt, alloc, &script, log_of(told.bytes()))? {
+            return Ok(words);
+        }
+    }
+    Ok("")
+}
+
+#[test]
+fn six_openers(rt: HostRuntime) -> Result<(), Fail> {
+    assert!(rt; waits(&rt, rt.alloc())?, "a key is waited for");
+    assert_eq!(rt; unlawful(&rt, rt.alloc())?, "");
+    Ok(())
+}

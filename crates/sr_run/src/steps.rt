@@ -1,0 +1,96 @@
+ghost use Rattle.std.specs.Prelude.{◌≡◌, length};
+ghost use Rattle.std.specs.Option.{ForSome};
+ghost use Rattle.sr_io.specs.Faults.{Counts};
+ghost use Rattle.sr_script.specs.Fitting.{IsFitting};
+ghost use Rattle.sr_script.specs.Script.{spelled};
+ghost use Rattle.sr_script.specs.declared.refusal.ScriptRefusal.{ScriptRefusal as ARefusal};
+ghost use Rattle.sr_run.specs.Outside.{TellsFaults, WritesNothing, outside};
+ghost use Rattle.sr_run.specs.Steps.{EndsCapture, PlaysCapture, PlaysCaptured, RunsSteps, status_after};
+ghost use Rattle.sr_run.specs.declared.status.Status.TheVariants as status;
+
+use crate::Status;
+use crate::print_lines::print_lines;
+use crate::script_text::fetch_script;
+use sr_base::Key;
+use sr_capture::{CaptureRefusal, Captured, read_capture};
+use sr_io::{Shelf, Sink, Source};
+use sr_rounds::Timed;
+use sr_script::Script;
+use sr_scripted::play_script;
+use std::alloc::Global;
+
+/// Runs the command `steps`: fetches the script of this name, reads the whole capture, plays it by the picks of the seed, and then prints.
+pub(crate) fn run_steps<S: Source, F: Shelf, K: Sink>(
+    alloc: Global,
+    script: &str,
+    seed: u64,
+    source: &mut S,
+    shelf: &mut F,
+    sink: &mut K,
+) -> Status
+    ensures steps { RunsSteps script.now seed result (outside (S.known source.old) (F.known shelf.old) (K.known sink.old))
+        (outside (S.known source.new) (F.known shelf.new) (K.known sink.new)) }
+    ensures untouched { (refusal : ARefusal) → result ≡ status.Script refusal → source.new ≡ source.old }
+    ensures faults { TellsFaults result (outside (S.known source.old) (F.known shelf.old) (K.known sink.old))
+        (outside (S.known source.new) (F.known shelf.new) (K.known sink.new)) }
+    ensures quiet { WritesNothing result (K.known sink.old) (K.known sink.new) }
+{
+    match fetch_script(alloc, script, shelf) {
+        Ok(script) => play_capture(alloc, script, seed, source, sink),
+        Err(status) => status,
+    }
+}
+
+// Reads the capture and plays it by the script.
+fn play_capture<S: Source, K: Sink>(
+    alloc: Global,
+    script: Script,
+    seed: u64,
+    source: &mut S,
+    sink: &mut K,
+) -> Status
+    requires { IsFitting (spelled script) }
+    ensures log { ForSome (S.known source.old).left (λ xs. PlaysCapture result (spelled script) seed xs (S.known source.new) (K.known sink.old) (K.known sink.new)) }
+    ensures ends { EndsCapture result }
+    ensures quiet { WritesNothing result (K.known sink.old) (K.known sink.new) }
+    ensures source { Counts (result ≡ status.ReadFault) (S.known source.old).faults (S.known source.new).faults }
+    ensures sink { Counts (result ≡ status.WriteFault) (K.known sink.old).faults (K.known sink.new).faults }
+{
+    match read_capture(alloc, &script.vips, source) {
+        Ok(captured) => play_captured(alloc, script, seed, &captured, sink),
+        Err(why) => Status::from(why),
+    }
+}
+
+// Plays what was kept of a capture by the script, and prints the log.
+fn play_captured<K: Sink>(
+    alloc: Global,
+    script: Script,
+    seed: u64,
+    captured: &Captured<Timed>,
+    sink: &mut K,
+) -> Status
+    requires { IsFitting (spelled script) }
+    ensures { PlaysCaptured result (spelled script) seed captured.now (K.known sink.old) (K.known sink.new) }
+{
+    match play_script(alloc, script, &captured.packets, seed) {
+        Err(_) => Status::Memory,
+        Ok(played) => match print_lines(&captured.skips, &played.lines, sink) {
+            Err(_) => Status::WriteFault,
+            Ok(()) => status_after(captured.ending, played.awaited),
+        },
+    }
+}
+
+// How a run ends once its log is printed: a refusal of the capture comes before a key that an update waits for.
+fn status_after(refusal: Option<CaptureRefusal>, awaited: Option<Key>) -> Status
+    ensures { result ≡ status_after refusal awaited }
+{
+    match refusal {
+        Some(why) => Status::Capture(why),
+        None => match awaited {
+            Some(key) => Status::Waiting(key),
+            None => Status::Done,
+        },
+    }
+}

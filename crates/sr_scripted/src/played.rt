@@ -1,0 +1,50 @@
+ghost use Rattle.std.specs.Prelude.{◌≡◌, IfOk};
+ghost use Rattle.sr_script.specs.Fitting.{IsFitting};
+ghost use Rattle.sr_script.specs.Script.{spelled};
+ghost use Rattle.sr_scripted.specs.Played.{Plays, settled_for};
+
+use crate::{config_of, in_order};
+use sr_base::Key;
+use sr_law::Line;
+use sr_machine::Settled;
+use sr_rounds::Timed;
+use sr_script::Script;
+use sr_steps::run_by_picks;
+use std::alloc::{AllocError, Global};
+
+/// What is left of a run.
+#[derive(Debug, Drop)]
+pub struct Played {
+    /// The lines of all actors, by their ticks.
+    pub lines: Vec<Line>,
+    /// The key that an update waits for, if one does; it has no plan.
+    pub awaited: Option<Key>,
+}
+
+/// The run of a script over these packets, by the picks of a seed.
+pub fn play_script(
+    alloc: Global,
+    script: Script,
+    packets: &[Timed],
+    seed: u64,
+) -> Result<Played, AllocError>
+    requires { IsFitting (spelled script) }
+    ensures { IfOk result (λ played. Plays (spelled script) seed packets.now played.lines.items played.awaited) }
+{
+    let config = config_of(alloc, script)?;
+    let run = run_by_picks(alloc, config, packets, seed)?;
+    let awaited = awaited(run.settled)?;
+    let lines = in_order(run.core.all_lines(alloc)?)?;
+    Ok(Played { lines, awaited })
+}
+
+// The key that an update waits for after turns that ended so, if one does.
+fn awaited(settled: Settled) -> Result<Option<Key>, AllocError>
+    ensures { IfOk result (λ key. settled ≡ settled_for key) }
+{
+    match settled {
+        Settled::Quiet => Ok(None),
+        Settled::Waiting { key } => Ok(Some(key)),
+        Settled::Memory => Err(AllocError),
+    }
+}
