@@ -135,17 +135,6 @@ module _ (s : Core) (i : Invariant s) where
       let a = leaves v.stage key n h in
       sent_known p v a.flight a.server n a.pool last.Out q a.is a.opener m (subst (λ z. IsKnown l (ring_words s.words) book z m) (sym a.own) known)
 
-  -- and where a place speaks to its key, the place is one that is being reserved
-  pub leaving_missed : (key : KeyView) (n : ℕ) → SomeLeaving s.pipes key n → (place : Place) → is_place_of l.shape key place ≡ true
-      → Speaks (says l place key (s.words (name.Entry place))) → (p : ℕ) × (entered : ℕ) × MissedReserved s.controller.job p entered place
-  leaving_missed key n (p, v, q, h) place own speaks =
-      let a = leaves v.stage key n h in (
-        p,
-        a.flight.entered,
-        sent_missed p v a.flight a.server n a.pool last.Out q a.is a.opener place (subst (λ z. is_place_of l.shape z place ≡ true) (sym a.own) own)
-            (subst (λ z. Speaks (says l place z (s.words (name.Entry place)))) (sym a.own) speaks),
-      )
-
   -- ---- versions that are learned
 
   -- a report in a ring tells a version that may still be learned

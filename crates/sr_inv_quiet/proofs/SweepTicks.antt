@@ -101,12 +101,6 @@ some_below t next h = at (nat_lt 0 t) (nat_lt t next) refl refl h
     at false b p q g = absurd (omega arith)
 
 module _ (s : Core) (i : Invariant s) where
-  abbrev pub tick : ℕ
-  tick = s.words name.Tick
-
-  abbrev pub lines_now : List Line
-  lines_now = printed s
-
   pub meets_all : AllMeet (setup_of s.config) (endings_in s.pipes (printed s)) (printed s)
   meets_all = i.causes.causes.clauses
 
@@ -129,9 +123,6 @@ module _ (s : Core) (i : Invariant s) where
   -- all of them before the next tick
   pub controlled_now : ControlledBefore (s.words name.Tick) (printed s)
   controlled_now = all_then (λ l. out_of l < s.words name.Tick) (λ l. is_controller l ≡ true → out_of l < s.words name.Tick) (λ l h c. h) (printed s) out_all
-
-  pub since_now : (key : KeyView) → since (printed s) key < s.words name.Tick
-  since_now key = since_before (s.words name.Tick) (printed s) key tick_some controlled_now
 
   -- lines start before the next tick
   pub start_all : AllByRecursion (λ l. start_of l < s.words name.Tick) (printed s)
