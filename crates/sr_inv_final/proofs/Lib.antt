@@ -1,3 +1,5 @@
+mod Answering
 mod Entering
+mod HeldLines
 mod Summing
 mod Telling
