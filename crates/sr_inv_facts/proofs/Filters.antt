@@ -1,10 +1,10 @@
 -- The transit filter as a place of it is set.
-use Rattle.std.proofs.Common.{◌≡◌, ℕ, ◌%◌, Bool, true, false, ◌≢◌, ◌⊎◌, List, [], ◌∷◌, bit_or, if◌then◌else◌, ◌==◌, sym, refl, ap, ◌∙◌, inl, inr, arith}
-use Rattle.std.specs.Int.{bit_at}
+use Rattle.std.proofs.Common.{◌≡◌, ℕ, ◌-◌, ◌*◌, ◌/◌, ◌%◌, ◌^◌, ◌<◌, ◌≤◌, max, pow_mono, pow-add, Bool, true, false, ◌≢◌, ◌⊎◌, List, [], ◌∷◌, bit_or, if◌then◌else◌, ◌==◌, sym, refl, ap, ◌∙◌, inl, inr, arith}
+use Rattle.std.specs.Int.{bit_at, IsPowerOfTwo}
 use Rattle.std.specs.List.{list_all}
-use Rattle.std.proofs.lemmas.Bool.{and_parts, cases_eq}
+use Rattle.std.proofs.lemmas.Bool.{and_parts, cases_eq, cases_lt}
 use Rattle.std.proofs.lemmas.Bool.Decides.{nat_tests}
-use Rattle.std.proofs.lemmas.Nat.Bits.{bit_at_or, bit_at-lt, bit_at-pow_same, bit_at-pow_other}
+use Rattle.std.proofs.lemmas.Nat.Bits.{bit_at_or, bit_at-lt, bit_at-zero, bit_at-pow_same, bit_at-pow_other}
 use Rattle.sr_base.specs.Key.{KeyView}
 use Rattle.sr_base.specs.Layout.{LayoutView}
 use Rattle.sr_inv_facts.specs.Readings.{is_marked, is_set_in}
@@ -29,6 +29,21 @@ bit_tells place x e = grind (arith, nat_tests)
 bit_told : (place x : ℕ) → has_bit place x ≡ true → bit_at x (place % 64) ≡ 1
 unfolding has_bit
 bit_told place x e = grind (arith, nat_tests)
+
+-- an empty word has none set
+pub zero_unset : (place : ℕ) → has_bit place 0 ≡ true → ⊥
+zero_unset place e = omega (arith, bit_told place 0 e, bit_at-zero (place % 64))
+
+-- the word of a place of the filter is one of its words
+pub word_within : (place bits : ℕ) → place < bits → IsPowerOfTwo bits → filter_word place < max 1 (bits / 64)
+word_within place bits b (k, e) = at (cases_lt k 6)
+  where
+    at : (k < 6) ⊎ (6 ≤ k) → place / 64 < max 1 (bits / 64)
+    at (inl h) = let few : 2 ^ k ≤ 2 ^ 5 = pow_mono {i = k} {j = 5} (omega arith) in omega (arith, b, e, few)
+    at (inr h) =
+        let split : 2 ^ k ≡ 2 ^ (k - 6) * 2 ^ 6 = ap (λ n. 2 ^ n) (omega arith) ∙ pow-add 2 (k - 6) 6 in
+        let many : bits ≡ 2 ^ (k - 6) * 64 = e ∙ split in
+        omega (arith, b, many)
 
 or_more : (place x y : ℕ) → has_bit place x ≡ true → has_bit place (bit_or x y) ≡ true
 or_more place x y e =

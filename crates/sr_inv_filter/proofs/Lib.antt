@@ -1,7 +1,10 @@
 pub mod DrainedReports
+pub mod FilterKept
 pub mod FilterSteps
 pub mod Learners
 pub mod LoadedPhases
 pub mod PendingKeys
+pub mod RecordedLines
 pub mod RingReports
 pub mod Sent
+pub mod SetPlaces

@@ -21,7 +21,7 @@ use Rattle.sr_machine.specs.declared.stage.Stage.TheVariants.{Fly}
 use Rattle.sr_law.specs.declared.verdict.Verdict.TheVariants as verdict
 use Rattle.sr_machine.specs.declared.leg.Last.TheVariants as last
 
-opener_has : (kind : Kind) (P : Type 0) → kind ≡ Opener → IfOpener kind P → P
+pub opener_has : (kind : Kind) (P : Type 0) → kind ≡ Opener → IfOpener kind P → P
 opener_has Opener P e h = h
 opener_has Carry P e h = cc
 opener_has Ending P e h = cc

@@ -1,6 +1,6 @@
 //! What every event keeps.
 
-ghost use Rattle.sr_inv_facts.specs.InFilter.{DrainedKept, LearnersKept, PendingKept, ReportsKept};
+ghost use Rattle.sr_inv_facts.specs.InFilter.{DrainedKept, InFilter, LearnersKept, MarkersKept, PendingKept, ReportsKept};
 ghost use Rattle.sr_inv_facts.specs.Laws.{BegunKeeps, EventsKeep, OpensWith};
 
 /// A law: an opener that may yet be learned by the version that an update gives isn't in the filter, once the switch is stored; so it is at the opening,
@@ -35,4 +35,19 @@ pub fn pending_keys_are_kept()
     ensures opening { OpensWith PendingKept }
     ensures begun { BegunKeeps PendingKept }
     ensures event { EventsKeep PendingKept }
+{}
+
+/// A law: from the store of Recording on, each place of the filter that is set was set by an opener of the virtual address that was sent to another pool
+/// since the update was recorded, or is on its way out; so it is at the opening, and so it stays with every event.
+pub fn set_places_are_kept()
+    ensures opening { OpensWith MarkersKept }
+    ensures begun { BegunKeeps MarkersKept }
+    ensures event { EventsKeep MarkersKept }
+{}
+
+/// A law: what is said of the transit filter holds at the opening, and stays with every event.
+pub fn filter_is_kept()
+    ensures opening { OpensWith InFilter }
+    ensures begun { BegunKeeps InFilter }
+    ensures event { EventsKeep InFilter }
 {}

@@ -83,7 +83,7 @@ finish_known lines vip start h =
 -- ---- lines in order
 
 module _ (setup : SetupView) (endings : List EndingPacket) where
-  order_parts : (before : List Line) (l : Line) → meets_order setup before l ≡ true
+  pub order_parts : (before : List Line) (l : Line) → meets_order setup before l ≡ true
       → (keeps_groups setup before l ≡ true) × (after_last before l ≡ true)
   unfolding meets_order rises
   order_parts before l e =
