@@ -10,7 +10,6 @@ use Rattle.sr_inv_facts.specs.InFlight.{InFlight}
 use Rattle.sr_inv_facts.specs.InHeld.{InHeld}
 use Rattle.sr_inv_facts.specs.InJobs.{InJobs}
 use Rattle.sr_inv_facts.specs.InShape.{InShape}
-use Rattle.sr_inv_facts.specs.InSweeps.{ClosedAre, InSweeps, QuietAre, SettledAre, SweepsAreCounted, UnplacedAre}
 use Rattle.sr_inv_facts.specs.InTicks.{InTicks}
 use Rattle.sr_inv_facts.specs.InUpdate.{ChangesKept, InUpdate, PhasesHold, VersionsKept}
 use Rattle.sr_inv_facts.specs.InWords.{InWords}
@@ -22,6 +21,7 @@ use Rattle.sr_inv_jobs.proofs.JobsKept.{jobs_keep}
 use Rattle.sr_inv_jobs.proofs.JobsOpen.{jobs_open}
 use Rattle.sr_inv_matching.proofs.MatchingKept.{matching_begun, matching_events, matching_opens}
 use Rattle.sr_inv_openings.proofs.OpeningsKept.{openings_begun, openings_event, openings_open}
+use Rattle.sr_inv_quiet.proofs.SweepsKept.{sweeps_begun, sweeps_event, sweeps_open}
 use Rattle.sr_inv_shape.proofs.ShapesKept.{shapes_keep}
 use Rattle.sr_inv_shape.proofs.ShapesOpen.{shapes_open}
 use Rattle.sr_inv_track.proofs.TrackKept.{track_begun, track_events, track_opens}
@@ -37,8 +37,7 @@ use Rattle.sr_machine.specs.Core.{Core, opening, run, step_event}
 use Rattle.sr_machine.specs.Keeping.{Brings, begun_core}
 use Rattle.sr_machine.specs.declared.event.Event.{Event}
 
-module _ (filter_open : OpensWith InFilter) (filter_begun : BegunKeeps InFilter) (filter_event : EventsKeep InFilter)
-    (sweeps_open : OpensWith InSweeps) (sweeps_begun : BegunKeeps InSweeps) (sweeps_event : EventsKeep InSweeps) where
+module _ (filter_open : OpensWith InFilter) (filter_begun : BegunKeeps InFilter) (filter_event : EventsKeep InFilter) where
   pub invariant_open : OpensWith Invariant
   invariant_open k f = record {
     shape = shapes_open k f;

@@ -179,14 +179,19 @@ module _ (P : Core → Type 0) (makes : (s t : Core) (e : Event) → P s → Bri
   shares_are [] of packets a = tt
   shares_are (i ∷ rest) of packets a = (all_filtered IsPacket (λ p. of p == i) packets a, shares_are rest of packets a)
 
-  rounds_keep : (packets : List Timed) → ArePackets packets → (rounds : List Round) (x : ℕ) (s : Core) (y : ℕ) (t : Core) → P s
+  -- a round keeps it
+  pub round_keeps : (packets : List Timed) → ArePackets packets → (r : Round) (x : ℕ) (s : Core) (q : Play) → P s
+      → PlaysTo (round_begun packets r x s) q
+      → P q.state
+  round_keeps packets a r x s q h plays =
+      (plays_keep (round_begun packets r x s) q (after_keeps s (Due r.start_ms) tt h, shares_are (range_with_len 0 s.config.layout.shape.pipes) (λ p. pipe_number p.key s.config.layout.shape.pipes) (packets_in packets r) (packets_are packets r a)) plays).0
+
+  pub rounds_keep : (packets : List Timed) → ArePackets packets → (rounds : List Round) (x : ℕ) (s : Core) (y : ℕ) (t : Core) → P s
       → Rounds packets rounds x s y t
       → P t
   rounds_keep packets a [] x s y t r e = subst P (sym e.1) r
   rounds_keep packets a (round ∷ rest) x s y t r (q, plays, more) =
-      rounds_keep packets a rest q.generator q.state y t
-      (plays_keep (round_begun packets round x s) q (after_keeps s (Due round.start_ms) tt r, shares_are (range_with_len 0 s.config.layout.shape.pipes) (λ p. pipe_number p.key s.config.layout.shape.pipes) (packets_in packets round) (packets_are packets round a)) plays).0
-      more
+      rounds_keep packets a rest q.generator q.state y t (round_keeps packets a round x s q r plays) more
 
   -- ---- the whole run
 

@@ -58,14 +58,14 @@ over_idle p count over = λ i v there.
 
 module _ (P : Core → Type 0) (count : (s : Core) → P s → length s.pipes ≡ s.config.layout.shape.pipes) where
   pub rounds_idle : (packets : List Timed) (rounds : List Round) (x : ℕ) (s : Core) (y : ℕ) (t : Core)
-      → ((p q : Play) → P p.state → PlaysTo p q → P q.state) → ((r : Round) (x : ℕ) (s : Core) → P s → P (round_begun packets r x s).state) → P s
+      → ((r : Round) (x : ℕ) (s : Core) (q : Play) → P s → PlaysTo (round_begun packets r x s) q → P q.state) → P s
       → AreIdle s
       → Rounds packets rounds x s y t
       → AreIdle t
-  rounds_idle packets [] x s y t plays begins p idle e = subst AreIdle (sym e.1) idle
-  rounds_idle packets (r ∷ rest) x s y t plays begins p idle (q, to, more) =
-      let there = plays (round_begun packets r x s) q (begins r x s p) to in
-      rounds_idle packets rest q.generator q.state y t plays begins there (over_idle q (count q.state there) to.2) more
+  rounds_idle packets [] x s y t plays p idle e = subst AreIdle (sym e.1) idle
+  rounds_idle packets (r ∷ rest) x s y t plays p idle (q, to, more) =
+      let there = plays r x s q p to in
+      rounds_idle packets rest q.generator q.state y t plays there (over_idle q (count q.state there) to.2) more
 
 -- ---- the turns after the last round
 

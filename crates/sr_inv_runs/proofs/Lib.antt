@@ -1,3 +1,4 @@
 pub mod Carried
 pub mod Idle
 pub mod Lines
+pub mod Picked
