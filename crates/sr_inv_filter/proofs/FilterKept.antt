@@ -1,5 +1,5 @@
 -- The parts of what is said of the transit filter are all of it.
-use Rattle.std.proofs.Common.{◌≡◌, ℕ, true, slice_get, slice_set, Some, None, Option}
+use Rattle.std.proofs.Common.{ℕ, slice_set, Some, None, Option}
 use Rattle.sr_inv_facts.specs.Fitted.{IsPacket}
 use Rattle.sr_inv_facts.specs.InFilter.{DrainedKept, InFilter, LearnersKept, MarkersKept, PendingKept, ReportsKept}
 use Rattle.sr_inv_facts.specs.Invariant.{Invariant}

@@ -1,11 +1,10 @@
 -- What the lines tell of the pool that an update switches to, from its Recorded line on.
-use Rattle.std.proofs.Common.{◌≡◌, ℕ, zero, suc, ◌-◌, ◌<◌, Bool, true, false, ◌&&◌, ◌||◌, List, [], ◌∷◌, length, take, if◌then◌else◌, ◌==◌, nat_lt, Some, None, Option, sym, refl, ap, ◌∙◌, subst, arith}
+use Rattle.std.proofs.Common.{◌≡◌, ℕ, zero, suc, ◌-◌, Bool, true, false, ◌||◌, List, [], ◌∷◌, length, take, if◌then◌else◌, ◌==◌, nat_lt, sym, refl, ap, ◌∙◌, arith}
 use Rattle.std.proofs.lemmas.Bool.{and_parts}
 use Rattle.std.proofs.lemmas.Bool.Decides.{nat_tests}
-use Rattle.std.specs.Option.{option_or}
 use Rattle.sr_inv_facts.specs.InCauses.{AllMeet}
 use Rattle.sr_inv_flight.proofs.HoldLines.{order_parts}
-use Rattle.sr_law.specs.Given.{given_by, last_given}
+use Rattle.sr_law.specs.Given.{last_given}
 use Rattle.sr_law.specs.Groups.{after_gives, goes_on, is_opening_give, keeps_groups, last_of_update, names_next_pool, was_held, was_recorded}
 use Rattle.sr_law.specs.Held.{is_set, recorded_giving, records, sets_place}
 use Rattle.sr_law.specs.Order.{meets_order}

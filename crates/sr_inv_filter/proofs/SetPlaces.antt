@@ -1,12 +1,10 @@
 -- Each place of the filter that is set was set by an opener that was sent to another pool since the update was recorded.
-use Rattle.std.proofs.Common.{◌≡◌, ℕ, ◌-◌, ◌<◌, ◌≤◌, Bool, true, false, ◌&&◌, ◌||◌, not, ◌≢◌, ◌⊎◌, List, [], ◌∷◌, ◌++◌, length, if◌then◌else◌, ◌==◌, slice_get, slice_set, Some, None, Option, option_to_list, sym, refl, ap, ◌∙◌, subst, inl, inr, true≢false, arith, append_assoc}
+use Rattle.std.proofs.Common.{◌≡◌, ℕ, ◌-◌, ◌<◌, Bool, true, false, ◌&&◌, ◌||◌, not, ◌≢◌, ◌⊎◌, List, [], ◌∷◌, ◌++◌, length, if◌then◌else◌, ◌==◌, slice_get, slice_set, Some, None, Option, option_to_list, sym, refl, ap, ◌∙◌, subst, inl, inr, true≢false, arith, append_assoc}
 use Rattle.std.proofs.lemmas.Bool.{and_parts, cases_eq}
 use Rattle.std.proofs.lemmas.Bool.Decides.{nat_tests}
 use Rattle.std.proofs.lemmas.Option.{same_Some}
 use Rattle.std.specs.List.{list_any}
-use Rattle.sr_base.specs.Key.{KeyView}
 use Rattle.sr_base.specs.Layout.{LayoutView}
-use Rattle.sr_base.specs.WordName.{filter_words}
 use Rattle.sr_base.specs.VipWord.{NextFits}
 use Rattle.sr_base.specs.declared.kind.Kind.{Kind}
 use Rattle.sr_base.specs.declared.kind.Kind.TheVariants.{Opener, Carry, Ending}
@@ -18,20 +16,20 @@ use Rattle.sr_inv_facts.proofs.CurrentVersions.{phase_given}
 use Rattle.sr_inv_facts.proofs.Filters.{set_only, with_place, word_within, zero_unset}
 use Rattle.sr_inv_facts.proofs.Lists.{of_some}
 use Rattle.sr_inv_facts.proofs.Pipes.{idle, some_else, some_here}
-use Rattle.sr_inv_facts.proofs.Printing.{job_tells, pipe_silent, prints, stage_prints, tells}
+use Rattle.sr_inv_facts.proofs.Printing.{job_tells, pipe_silent, prints, stage_prints}
 use Rattle.sr_inv_facts.proofs.Ranges.{word_fits}
 use Rattle.sr_inv_facts.specs.Fitted.{IsPacket}
 use Rattle.sr_inv_facts.specs.Flying.{OnFlight, OnLeg}
 use Rattle.sr_inv_facts.specs.InCauses.{endings_in, setup_of}
-use Rattle.sr_inv_facts.specs.InFilter.{HasSet, IsSetBy, Markers, MarkersKept, SetsNow, phase_at}
+use Rattle.sr_inv_facts.specs.InFilter.{HasSet, IsSetBy, Markers, MarkersKept, SetsNow}
 use Rattle.sr_inv_facts.specs.InFlight.{Chooses, ChoosesBy, HasWord, LegTells}
 use Rattle.sr_inv_facts.specs.InShape.{LegFits, StageFits}
 use Rattle.sr_inv_facts.specs.InUpdate.{AtFirst, AtPhase, IsAside, JobAt, OnGiven, UpdateFits, group_by, group_of_phase, group_recording, is_ungiven, newest}
 use Rattle.sr_inv_facts.specs.InWords.{IsCleared}
 use Rattle.sr_inv_facts.specs.Invariant.{Invariant}
 use Rattle.sr_inv_facts.specs.Laws.{OpensWith}
-use Rattle.sr_inv_facts.specs.Readings.{In, SomePipe, bit_words, is_set_in}
-use Rattle.sr_inv_filter.proofs.FilterSteps.{IsMark, clearing_phase, mark_recorded, stored_word, storing, step_bits}
+use Rattle.sr_inv_facts.specs.Readings.{In, bit_words, is_set_in}
+use Rattle.sr_inv_filter.proofs.FilterSteps.{mark_recorded, storing, step_bits}
 use Rattle.sr_inv_filter.proofs.LoadedPhases.{RecordedAt, phase_is, recorded_at}
 use Rattle.sr_inv_filter.proofs.RecordedLines.{held_same, recorded_same, set_before, set_by}
 use Rattle.sr_inv_filter.proofs.Sent.{opener_has}
@@ -42,29 +40,26 @@ use Rattle.sr_inv_flight.proofs.Steps.{OnOp}
 use Rattle.sr_law.specs.Given.{has_pool, last_given}
 use Rattle.sr_law.specs.Groups.{after_gives, last_of_update, was_held, was_recorded}
 use Rattle.sr_law.specs.Held.{is_set, recorded_giving, records, sets_place}
-use Rattle.sr_law.specs.declared.giving.Giving.{Giving}
 use Rattle.sr_law.specs.declared.line.Line.{Line}
 use Rattle.sr_law.specs.declared.verdict.Verdict.{Verdict}
 use Rattle.sr_machine.specs.Begins.{Begins}
-use Rattle.sr_machine.specs.Core.{Core, opening, printed}
+use Rattle.sr_machine.specs.Core.{Core, printed}
 use Rattle.sr_machine.specs.Deciding.{named_at, vip_at}
 use Rattle.sr_machine.specs.Draws.{draw_line}
 use Rattle.sr_machine.specs.Jobs.{job_op}
-use Rattle.sr_machine.specs.Keeping.{AfterJob, AfterStage, Keeps, begun_core, job_core, stage_core}
+use Rattle.sr_machine.specs.Keeping.{AfterJob, AfterStage, Keeps, begun_core, job_core}
 use Rattle.sr_machine.specs.Names.{rewritten}
 use Rattle.sr_machine.specs.Opening.{opening_controller}
 use Rattle.sr_machine.specs.Ops.{op_answer, op_name, op_words}
 use Rattle.sr_machine.specs.Pipe.{is_idle, packet_line, pipe_after, pipe_op}
-use Rattle.sr_machine.specs.Reads.{filter_bit, filter_word, has_bit, steady}
+use Rattle.sr_machine.specs.Reads.{filter_word, has_bit, steady}
 use Rattle.sr_machine.specs.Stages.{is_opener, is_recorded, is_recording, is_to, key_bits, marking, stage_after}
-use Rattle.sr_machine.specs.Starting.{Start, update_to}
+use Rattle.sr_machine.specs.Starting.{Start}
 use Rattle.sr_machine.specs.Stores.{is_last_filter, phase_word}
 use Rattle.sr_machine.specs.declared.draw.Draw.{Draw}
 use Rattle.sr_machine.specs.declared.flight.Flight.{Flight}
 use Rattle.sr_machine.specs.declared.job.Job.{Job}
-use Rattle.sr_machine.specs.declared.leg.Last.{Last}
-use Rattle.sr_machine.specs.declared.leg.Leg.{Leg}
-use Rattle.sr_machine.specs.declared.leg.Leg.TheVariants.{Look, Hit, Filter, Chosen, Judged}
+use Rattle.sr_machine.specs.declared.leg.Leg.TheVariants.{Judged}
 use Rattle.sr_machine.specs.declared.op.Op.{Op}
 use Rattle.sr_machine.specs.declared.pipe_view.PipeView.{PipeView}
 use Rattle.sr_machine.specs.declared.pool_update.PoolUpdate.{PoolUpdate}
@@ -76,7 +71,6 @@ use Rattle.sr_machine.specs.Begins as begin
 use Rattle.sr_machine.specs.declared.draw.Draw.TheVariants as draw
 use Rattle.sr_machine.specs.declared.job.Job.TheVariants as job
 use Rattle.sr_machine.specs.declared.leg.Last.TheVariants as last
-use Rattle.sr_machine.specs.declared.leg.Load.TheVariants as load
 use Rattle.sr_machine.specs.declared.name.Name.TheVariants as name
 use Rattle.sr_machine.specs.declared.op.Op.TheVariants as op
 use Rattle.sr_machine.specs.declared.stage.Stage.TheVariants as stage
