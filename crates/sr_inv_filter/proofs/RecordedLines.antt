@@ -1,11 +1,10 @@
 -- What the lines tell of the pool that an update switches to, from its Recorded line on.
 use Rattle.std.proofs.Common.{◌≡◌, ℕ, zero, suc, ◌-◌, Bool, true, false, ◌||◌, List, [], ◌∷◌, length, take, if◌then◌else◌, ◌==◌, nat_lt, sym, refl, ap, ◌∙◌, arith}
-use Rattle.std.proofs.lemmas.Bool.{and_parts}
 use Rattle.std.proofs.lemmas.Bool.Decides.{nat_tests}
 use Rattle.sr_inv_facts.specs.InCauses.{AllMeet}
-use Rattle.sr_inv_flight.proofs.HoldLines.{order_parts}
+use Rattle.sr_inv_flight.proofs.HoldLines.{group_part}
 use Rattle.sr_law.specs.Given.{last_given}
-use Rattle.sr_law.specs.Groups.{after_gives, goes_on, is_opening_give, keeps_groups, last_of_update, names_next_pool, was_held, was_recorded}
+use Rattle.sr_law.specs.Groups.{after_gives, last_of_update, was_held, was_recorded}
 use Rattle.sr_law.specs.Held.{is_set, recorded_giving, records, sets_place}
 use Rattle.sr_law.specs.Order.{meets_order}
 use Rattle.sr_law.specs.Retire.{EndingPacket}
@@ -17,12 +16,10 @@ module _ (setup : SetupView) (endings : List EndingPacket) where
   -- a Hold line comes after the Recorded line of its virtual address
   hold_on : (out to : ℕ) (before : List Line) → meets_order setup before (line.Hold out to) ≡ true
       → was_recorded to (last_of_update (after_gives (length setup.pools) before)) ≡ true
-  unfolding keeps_groups
   hold_on out to before e =
-      at (nat_lt (length before) (length setup.pools))
-      (and_parts (if nat_lt (length before) (length setup.pools) then is_opening_give (length before) (line.Hold out to) else goes_on (last_of_update (after_gives (length setup.pools) before)) (line.Hold out to)) (names_next_pool setup.pools before (line.Hold out to)) (order_parts setup endings before (line.Hold out to) e).0).0
+      at (nat_lt (length before) (length setup.pools)) (group_part setup endings before (line.Hold out to) e)
     where
-      at : (b : Bool) → (if b then is_opening_give (length before) (line.Hold out to) else goes_on (last_of_update (after_gives (length setup.pools) before)) (line.Hold out to)) ≡ true
+      at : (b : Bool) → (if b then false else was_recorded to (last_of_update (after_gives (length setup.pools) before))) ≡ true
           → was_recorded to (last_of_update (after_gives (length setup.pools) before)) ≡ true
       at true e = cc
       at false e = e

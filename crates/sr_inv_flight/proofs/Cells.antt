@@ -5,12 +5,10 @@ use Rattle.std.proofs.lemmas.Bool.Decides.{nat_tests}
 use Rattle.std.proofs.Math.Nat.{add-mod_right}
 use Rattle.std.proofs.lemmas.Option.{slice_get_within}
 use Rattle.sr_base.specs.Layout.{LayoutView}
-use Rattle.sr_base.specs.RingWord.{kind_number}
-use Rattle.sr_base.specs.declared.ring_word.RingKind.{RingKind}
-use Rattle.sr_base.specs.declared.ring_word.RingKind.TheVariants.{Learn, Punt, Close}
 use Rattle.sr_inv_facts.proofs.Lists.{ranged_at}
 use Rattle.sr_inv_facts.proofs.Pipes.{each_set, each_then}
 use Rattle.sr_inv_facts.proofs.Takes.{take_none, take_other, take_own}
+use Rattle.sr_inv_facts.proofs.Taking.{none_reported}
 use Rattle.sr_inv_facts.specs.Fitted.{IsPacket}
 use Rattle.sr_inv_facts.specs.Flying.{OnLeg}
 use Rattle.sr_inv_facts.specs.InFlight.{CellsFree, LegFree, LegHolds}
@@ -29,7 +27,8 @@ use Rattle.sr_machine.specs.Keeping.{AfterJob, AfterStage, Keeps}
 use Rattle.sr_machine.specs.Opening.{opening_pipes}
 use Rattle.sr_machine.specs.Ops.{op_answer, op_name}
 use Rattle.sr_machine.specs.Pipe.{fresh_pipe, pipe_after, pipe_op, pushed_after}
-use Rattle.sr_machine.specs.Reads.{has_bit, read_flag, says}
+use Rattle.sr_machine.proofs.Written.{report_read}
+use Rattle.sr_machine.specs.Reads.{has_bit, read_flag, read_report, says}
 use Rattle.sr_machine.specs.Stages.{begun_flight, is_recorded, key_bits, key_places, last_at, last_by, leg_after, loaded, marking, ring_cell, stage_after, verdict_at}
 use Rattle.sr_machine.specs.Taking.{ended_by, taking}
 use Rattle.sr_machine.specs.declared.controller_view.ControllerView.{ControllerView}
@@ -55,11 +54,6 @@ use Rattle.sr_machine.specs.declared.stage.Stage.TheVariants as stage
 
 -- ---- an empty cell is a free one
 
-kind_some : (kind : RingKind) → 1 ≤ kind_number kind
-kind_some Learn = omega arith
-kind_some Punt = omega arith
-kind_some Close = omega arith
-
 -- a ring whose next cell is empty has room
 pub has_room : (l : LayoutView) (ring : ℕ → ℕ) (taken pushed : ℕ) → HoldsReports l ring taken pushed → 0 < l.shape.ring
     → ring (pushed % l.shape.ring) ≡ 0
@@ -73,7 +67,7 @@ has_room l ring taken pushed h some empty = at (cases_lt pushed (taken + l.shape
         let same : pushed % l.shape.ring ≡ taken % l.shape.ring = ap (λ n. n % l.shape.ring) full ∙ add-mod_right taken l.shape.ring in
         let r = h.there taken (omega arith) (omega arith) in
         let none : ring (taken % l.shape.ring) ≡ 0 = ap ring (sym same) ∙ empty in
-        absurd (omega (arith, r.value, none, kind_some r.report.kind))
+        absurd (none_reported l 0 r.report refl (ap (read_report l) (sym none ∙ r.value) ∙ report_read l r.report r.is_word r.vip))
 
 -- ---- a packet's step
 

@@ -83,7 +83,7 @@ finish_known lines vip start h =
 -- ---- lines in order
 
 module _ (setup : SetupView) (endings : List EndingPacket) where
-  pub order_parts : (before : List Line) (l : Line) → meets_order setup before l ≡ true
+  order_parts : (before : List Line) (l : Line) → meets_order setup before l ≡ true
       → (keeps_groups setup before l ≡ true) × (after_last before l ≡ true)
   unfolding meets_order rises
   order_parts before l e =
@@ -95,15 +95,23 @@ module _ (setup : SetupView) (endings : List EndingPacket) where
       let b = and_parts (after_last before l && is_in_time l) (has_new_ticks before l) a.0 in
       (t.0, (and_parts (after_last before l) (is_in_time l) b.0).0)
 
+  -- the test of a line's group: an opening give, or a line that goes on with the update
+  abbrev pub in_group : List Line → Line → Bool
+  in_group before l =
+      if nat_lt (length before) (length setup.pools) then is_opening_give (length before) l
+      else goes_on (last_of_update (after_gives (length setup.pools) before)) l
+
+  pub group_part : (before : List Line) (l : Line) → meets_order setup before l ≡ true → in_group before l ≡ true
+  unfolding keeps_groups
+  group_part before l e = (and_parts (in_group before l) (names_next_pool setup.pools before l) (order_parts before l e).0).0
+
   -- a switch comes after the Hold line of its virtual address
   switched_on : (out to pool : ℕ) (before : List Line) → meets_order setup before (line.Switched out to pool) ≡ true
       → was_held to (last_of_update (after_gives (length setup.pools) before)) ≡ true
-  unfolding keeps_groups
   switched_on out to pool before e =
-      at (nat_lt (length before) (length setup.pools))
-      (and_parts (if nat_lt (length before) (length setup.pools) then is_opening_give (length before) (line.Switched out to pool) else goes_on (last_of_update (after_gives (length setup.pools) before)) (line.Switched out to pool)) (names_next_pool setup.pools before (line.Switched out to pool)) (order_parts before (line.Switched out to pool) e).0).0
+      at (nat_lt (length before) (length setup.pools)) (group_part before (line.Switched out to pool) e)
     where
-      at : (b : Bool) → (if b then is_opening_give (length before) (line.Switched out to pool) else goes_on (last_of_update (after_gives (length setup.pools) before)) (line.Switched out to pool)) ≡ true
+      at : (b : Bool) → (if b then false else was_held to (last_of_update (after_gives (length setup.pools) before))) ≡ true
           → was_held to (last_of_update (after_gives (length setup.pools) before)) ≡ true
       at true e = cc
       at false e = e
