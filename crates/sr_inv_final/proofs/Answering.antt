@@ -95,17 +95,23 @@ range_within low (suc count) high a b =
 
 -- ---- a ring without reports of held openers
 
-punts_none : (l : LayoutView) (ring : ℕ → ℕ) → ((cell : ℕ) → OnReport l (ring cell) (λ w. w.kind ≢ Punt)) → (first count : ℕ)
+punts_none : (l : LayoutView) (ring : ℕ → ℕ) (taken : ℕ)
+    → ((i : ℕ) → i < l.shape.ring → OnReport l (ring ((taken + i) % l.shape.ring)) (λ w. w.kind ≢ Punt)) → (i first count : ℕ)
+    → first ≡ taken + i → i + count ≤ l.shape.ring
     → punts_from l ring first count ≡ []
-punts_none l ring none first zero = refl
-punts_none l ring none first (suc count) =
-    ap (λ ks. ks ++ punts_from l ring (first + 1) count) (no (read_report l (ring (first % l.shape.ring))) (none (first % l.shape.ring)))
-    ∙ punts_none l ring none (first + 1) count
+punts_none l ring taken none i first zero e low = refl
+punts_none l ring taken none i first (suc count) e low =
+    ap (λ ks. ks ++ punts_from l ring (first + 1) count) (no (read_report l (ring (first % l.shape.ring))) here)
+    ∙ punts_none l ring taken none (i + 1) (first + 1) count (omega (arith, e)) (omega (arith, low))
   where
     by : (w : RingWord) (k : RingKind) → k ≢ Punt → punt_by w k ≡ []
     by w Learn n = refl
     by w Punt n = absurd (n refl)
     by w Close n = refl
+
+    here : OnReport l (ring (first % l.shape.ring)) (λ w. w.kind ≢ Punt)
+    here =
+        subst (λ n. OnReport l (ring (n % l.shape.ring)) (λ w. w.kind ≢ Punt)) (sym e) (none i (omega (arith, low)))
 
     no : (o : Option RingWord) → ((w : RingWord) → o ≡ Some w → w.kind ≢ Punt) → punt_in o ≡ []
     no None h = refl
@@ -201,7 +207,9 @@ module _ (s : Core) (i : Invariant s) (r : IsAtRest s) where
   all_told p v q =
       let h = i.held.held.pipe p v q in
       let words = (ring_count s.controller.rings p).words in
-      let low = dropped_none (punts p) (keys_of (held_of v)) (h.told ∙ punts_none s.config.layout (ring_words s.words p) (r.told p) words (v.pushed - words)) in
+      let ring = i.words.ring p v q in
+      let none = punts_none s.config.layout (ring_words s.words p) words (λ n b. r.told p n (within p v q) b) 0 words (v.pushed - words) (omega arith) (omega (arith, ring.least, ring.most)) in
+      let low = dropped_none (punts p) (keys_of (held_of v)) (h.told ∙ none) in
       omega (arith, low, h.count, length-map (held_of v) (λ w. w.key))
 
   at_rest : (p : ℕ) (v : PipeView) → slice_get s.pipes p ≡ Some v → v.stage ≡ Idle

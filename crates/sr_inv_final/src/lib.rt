@@ -4,4 +4,4 @@
 
 mod laws;
 
-pub use laws::lines_are_final;
+pub use laws::{empty_is_at_rest, lines_are_final};
