@@ -1,9 +1,9 @@
 -- Each held opener has one answer, and each answer is to one, once no report of one waits in a ring and the controller has none.
-use Rattle.std.proofs.Common.{◌≡◌, ℕ, zero, suc, ◌+◌, ◌-◌, ◌%◌, ◌<◌, ◌≤◌, ◌≢◌, ◌==◌, ◌&&◌, ◌||◌, nat_le, nat_lt, Bool, true, false, cond, List, [], ◌∷◌, ◌++◌, map, length, drop, slice_get, if◌then◌else◌, Some, None, Option, count_by, sum_by, sym, refl, ap, ◌∙◌, subst, append_assoc, append-nil, arith}
+use Rattle.std.proofs.Common.{◌≡◌, ℕ, zero, suc, ◌+◌, ◌-◌, ◌%◌, ◌<◌, ◌≤◌, ◌≢◌, ◌==◌, ◌&&◌, ◌||◌, nat_le, nat_lt, Bool, true, false, cond, List, [], ◌∷◌, ◌++◌, length, drop, slice_get, if◌then◌else◌, Some, None, Option, count_by, sum_by, sym, refl, ap, ◌∙◌, subst, append_assoc, append-nil, arith}
 use Rattle.std.proofs.lemmas.Bool.{and_parts}
 use Rattle.std.proofs.lemmas.Bool.Decides.{nat_tests}
 use Rattle.std.proofs.lemmas.List.{length-drop, length-map}
-use Rattle.std.proofs.lemmas.List.Sums.{sum_by-append, sum_by-cons}
+use Rattle.std.proofs.lemmas.List.Sums.{sum_by-cons}
 use Rattle.std.proofs.lemmas.Option.{same_Some, slice_get_within}
 use Rattle.std.specs.List.{AllByRecursion, list_all, list_any, range_with_len}
 use Rattle.sr_base.proofs.Sameness.{same_key-self}
@@ -37,7 +37,6 @@ use Rattle.sr_law.specs.Taken.{keeps_places}
 use Rattle.sr_law.specs.Ticks.{is_controller}
 use Rattle.sr_law.specs.declared.line.Line.{Line}
 use Rattle.sr_law.specs.declared.verdict.HeldBy.{HeldBy}
-use Rattle.sr_law.specs.declared.verdict.Verdict.{Verdict}
 use Rattle.sr_machine.specs.Core.{Core, pipe_lines, printed}
 use Rattle.sr_machine.specs.Deciding.{ring_count}
 use Rattle.sr_machine.specs.Reads.{read_report}
@@ -139,9 +138,13 @@ answers_counted p nth (l ∷ rest) = counted_on (answers p nth) l rest ∙ at l 
     at (line.Answer out pipe n key v) h = by n (pipe == p) h
     at m h = omega (arith, h)
 
+-- an answer to it is right
+abbrev IsRight : ℕ → ℕ → Waiting → Line → Type 0
+IsRight p nth w l = answers p nth l ≡ true → answers_rightly p nth w.key w.entered l ≡ true
+
 -- where each of them is right, and there is one, a right one is there
 some_right : (p nth : ℕ) (w : Waiting) (lines : List Line)
-    → AllByRecursion (λ l. answers p nth l ≡ true → answers_rightly p nth w.key w.entered l ≡ true) lines
+    → AllByRecursion (IsRight p nth w) lines
     → 1 ≤ count_by (answers p nth) lines
     → list_any (answers_rightly p nth w.key w.entered) lines ≡ true
 some_right p nth w [] a c = absurd (omega (arith, c))
@@ -228,7 +231,8 @@ module _ (s : Core) (i : Invariant s) (r : IsAtRest s) where
   answered_once p nth h low high =
       let one = answers_once p nth in
       let none : sum_by one (pipe_lines s.pipes) ≡ 0 =
-      zero_sum one (pipe_lines s.pipes) (pipe_lines_all (λ l. one l ≡ 0) s.pipes (λ q u e. all_then (IsOfPipe q) (λ l. one l ≡ 0) (silent q) u.lines (i.ticks.pipes q u e).own)) in
+      zero_sum one (pipe_lines s.pipes) (pipe_lines_all (λ l. one l ≡ 0) s.pipes (λ q u e.
+      all_then (IsOfPipe q) (λ l. one l ≡ 0) (silent q) u.lines (i.ticks.pipes q u e).own)) in
       let own : sum_by one s.controller.lines ≡ 1 =
       answers_counted p nth s.controller.lines
       ∙ (ap (count_by (λ m. m == nth)) (all_answered p h) ∙ range_once 1 (punts p) nth low (omega (arith, high))) in
@@ -240,17 +244,16 @@ module _ (s : Core) (i : Invariant s) (r : IsAtRest s) where
 
   -- each answer to a held opener is of its key, after it entered
   each_right : (p nth : ℕ) (v : PipeView) (w : Waiting) → slice_get s.pipes p ≡ Some v → slice_get (held_of v) (nth - 1) ≡ Some w
-      → AllByRecursion (λ l. answers p nth l ≡ true → answers_rightly p nth w.key w.entered l ≡ true) (printed s)
+      → AllByRecursion (IsRight p nth w) (printed s)
   each_right p nth v w q e =
-      printed_all s (λ l. answers p nth l ≡ true → answers_rightly p nth w.key w.entered l ≡ true)
-      (λ n u f. all_then (IsOfPipe n) (λ l. answers p nth l ≡ true → answers_rightly p nth w.key w.entered l ≡ true) (silent n) u.lines (i.ticks.pipes n u f).own)
-      (all_then (AnswersHeld s.pipes) (λ l. answers p nth l ≡ true → answers_rightly p nth w.key w.entered l ≡ true) right s.controller.lines i.held.held.answer)
+      printed_all s (IsRight p nth w) (λ n u f. all_then (IsOfPipe n) (IsRight p nth w) (silent n) u.lines (i.ticks.pipes n u f).own)
+      (all_then (AnswersHeld s.pipes) (IsRight p nth w) right s.controller.lines i.held.held.answer)
     where
-      silent : (n : ℕ) (l : Line) → IsOfPipe n l → answers p nth l ≡ true → answers_rightly p nth w.key w.entered l ≡ true
+      silent : (n : ℕ) (l : Line) → IsOfPipe n l → IsRight p nth w l
       silent n (line.Packet number entered out pipe key kind v) h t = cc
       silent n l h t = absurd h
 
-      right : (l : Line) → AnswersHeld s.pipes l → answers p nth l ≡ true → answers_rightly p nth w.key w.entered l ≡ true
+      right : (l : Line) → AnswersHeld s.pipes l → IsRight p nth w l
       right (line.Answer out pipe n key u) h t =
           let both = and_parts (pipe == p) (n == nth) t in
           let own : pipe ≡ p = grind (arith, nat_tests, both.0) in

@@ -1,5 +1,5 @@
 -- The lines of a state at rest are those of a whole run.
-use Rattle.std.proofs.Common.{◌≡◌, ◌≤◌, ◌&&◌, nat_le, true, length, sym, ap, ◌∙◌, arith}
+use Rattle.std.proofs.Common.{◌≡◌, ◌&&◌, nat_le, true, length, sym, ap, ◌∙◌, arith}
 use Rattle.std.proofs.lemmas.Bool.Decides.{nat_tests}
 use Rattle.std.specs.List.{list_all}
 use Rattle.sr_inv_facts.specs.Invariant.{Invariant}
@@ -7,7 +7,6 @@ use Rattle.sr_inv_final.proofs.Answering.{answers_held, helds_answered}
 use Rattle.sr_inv_final.proofs.SamePackets.{packets_are_told}
 use Rattle.sr_inv_final.specs.Laws.{FinalHolds}
 use Rattle.sr_inv_final.specs.Reached.{IsReached, entered_in}
-use Rattle.sr_inv_final.specs.Rest.{IsAtRest, setup_with}
 use Rattle.sr_inv_order.proofs.Grouped.{pools_count}
 use Rattle.sr_inv_order.proofs.Rising.{and_true}
 use Rattle.sr_law.specs.Final.{all_held_answered, answer_is_held, meets_final, packets_of, same_packets}
@@ -30,5 +29,6 @@ final k s r i rest =
     let packets = same_packets (packets_of all) (entered_in r.events) in
     let helds = all_held_answered all all in
     and_true ((pools && packets) && helds) (list_all (answer_is_held all) all)
-    (and_true (pools && packets) helds (and_true pools packets (pools_within k s r i) (packets_are_told k s r i.ticks rest.idle)) (helds_answered s i rest))
+    (and_true (pools && packets) helds (and_true pools packets (pools_within k s r i) (packets_are_told k s r i.ticks rest.idle))
+    (helds_answered s i rest))
     (answers_held s i rest)

@@ -1,8 +1,7 @@
 -- Each packet that entered is in hand or has its line.
-use Rattle.std.proofs.Common.{◌≡◌, ℕ, ◌+◌, ◌^◌, ◌&&◌, nat_lt, Bool, true, false, List, [], ◌∷◌, ◌++◌, length, slice_get, slice_set, sum_by, count_by, option_to_list, option_map, option_and_then, if◌then◌else◌, Option, Some, None, sym, refl, ap, ◌∙◌, subst, arith}
+use Rattle.std.proofs.Common.{◌≡◌, ℕ, ◌+◌, ◌^◌, ◌&&◌, nat_lt, Bool, true, false, List, [], ◌∷◌, ◌++◌, length, slice_get, slice_set, sum_by, count_by, option_to_list, option_map, option_and_then, if◌then◌else◌, Option, Some, None, sym, refl, ap, ◌∙◌, arith}
 use Rattle.std.proofs.lemmas.List.Sums.{sum_by-append, sum_by-cons}
 use Rattle.std.proofs.lemmas.Option.{same_Some}
-use Rattle.std.specs.List.{AllByRecursion}
 use Rattle.sr_base.specs.Layout.{LayoutView}
 use Rattle.sr_base.specs.declared.packet.Packet.{Packet}
 use Rattle.sr_inv_facts.proofs.Pipes.{idle}

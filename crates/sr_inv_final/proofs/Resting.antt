@@ -8,12 +8,9 @@ use Rattle.sr_base.specs.declared.ring_word.RingWord.{RingWord}
 use Rattle.sr_inv_facts.proofs.Pipes.{pipe_there}
 use Rattle.sr_inv_facts.proofs.Taking.{none_reported}
 use Rattle.sr_inv_facts.specs.InWords.{HoldsReports, IsReport}
-use Rattle.sr_inv_facts.specs.Invariant.{Invariant}
 use Rattle.sr_inv_facts.specs.Readings.{from_place, ring_words}
 use Rattle.sr_inv_final.specs.Laws.{EmptyIsAtRest}
-use Rattle.sr_inv_final.specs.Rest.{AreEmpty, IsAtRest}
 use Rattle.sr_machine.proofs.Written.{report_read}
-use Rattle.sr_machine.specs.Core.{Core}
 use Rattle.sr_machine.specs.Deciding.{ring_count}
 use Rattle.sr_machine.specs.Reads.{read_report}
 use Rattle.sr_machine.specs.declared.pipe_view.PipeView.{PipeView}

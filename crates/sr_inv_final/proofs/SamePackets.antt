@@ -1,5 +1,5 @@
 -- Once no packet is in hand, the lines tell of the packets that entered.
-use Rattle.std.proofs.Common.{◌≡◌, ℕ, zero, suc, ◌+◌, ◌==◌, ◌&&◌, Bool, true, false, List, [], ◌∷◌, ◌++◌, map, slice_get, sum_by, count_by, Some, sym, refl, ap, ◌∙◌, arith}
+use Rattle.std.proofs.Common.{◌≡◌, ℕ, zero, suc, ◌+◌, ◌==◌, true, List, [], ◌∷◌, map, sum_by, refl, ap, ◌∙◌, arith}
 use Rattle.std.proofs.lemmas.Bool.Decides.{nat_tests}
 use Rattle.std.proofs.lemmas.List.Sums.{sum_by-append, sum_by-cons}
 use Rattle.std.specs.List.{list_all, range_with_len}
@@ -11,8 +11,9 @@ use Rattle.sr_inv_facts.specs.Readings.{EachPipe}
 use Rattle.sr_inv_final.proofs.Entering.{came, came_in_run, hand_of, times, told_sum, told_times}
 use Rattle.sr_inv_final.proofs.Summing.{printed_sum, zero_sum}
 use Rattle.sr_inv_final.specs.Reached.{IsReached, entered_in}
+use Rattle.sr_inv_final.specs.Rest.{AreIdle}
 use Rattle.sr_inv_order.proofs.Rising.{and_true}
-use Rattle.sr_law.specs.Final.{is_as_often, packets_of, same_packet, same_packets}
+use Rattle.sr_law.specs.Final.{is_as_often, packets_of, same_packets}
 use Rattle.sr_law.specs.Ticks.{is_controller}
 use Rattle.sr_law.specs.declared.line.Line.{Line}
 use Rattle.sr_machine.specs.Config.{Config}
@@ -60,20 +61,23 @@ module _ (packet : Packet) where
   idle_came [] h = refl
   idle_came (v ∷ rest) h =
       let none : times packet (hand_of v.stage) ≡ 0 = ap (λ a. times packet (hand_of a)) (idle v.stage (h 0 v refl)) in
-      omega (arith, none, sum_by-append (told_times packet) v.lines (pipe_lines rest), sum_by-cons (came packet) v rest, idle_came rest (λ p w e. h (suc p) w e))
+      let lines = sum_by-append (told_times packet) v.lines (pipe_lines rest) in
+      omega (arith, none, lines, sum_by-cons (came packet) v rest, idle_came rest (λ p w e. h (suc p) w e))
 
   untold : (l : Line) → is_controller l ≡ true → told_times packet l ≡ 0
   untold (line.Packet number entered out pipe key kind v) h = cc
   untold l h = refl
 
-  told_as_entered : (k : Config) (s : Core) (r : IsReached k s) → InTicks s → EachPipe (λ p v. is_idle v.stage ≡ true) s.pipes
+  told_as_entered : (k : Config) (s : Core) (r : IsReached k s) → InTicks s → AreIdle s
       → times packet (packets_of (printed s)) ≡ times packet (entered_in r.events)
   told_as_entered k s r t h =
-      let none = zero_sum (told_times packet) s.controller.lines (all_then (λ l. is_controller l ≡ true) (λ l. told_times packet l ≡ 0) untold s.controller.lines t.controller.own) in
-      omega (arith, none, told_sum packet (printed s), printed_sum (told_times packet) s, idle_came s.pipes h, came_in_run packet r.events (opening k) s r.leads, none_came k)
+      let own = all_then (λ l. is_controller l ≡ true) (λ l. told_times packet l ≡ 0) untold s.controller.lines t.controller.own in
+      let none = zero_sum (told_times packet) s.controller.lines own in
+      let lines = told_sum packet (printed s) ∙ printed_sum (told_times packet) s in
+      omega (arith, none, lines, idle_came s.pipes h, came_in_run packet r.events (opening k) s r.leads, none_came k)
 
 -- the packets of the lines are those that entered
-pub packets_are_told : (k : Config) (s : Core) (r : IsReached k s) → InTicks s → EachPipe (λ p v. is_idle v.stage ≡ true) s.pipes
+pub packets_are_told : (k : Config) (s : Core) (r : IsReached k s) → InTicks s → AreIdle s
     → same_packets (packets_of (printed s)) (entered_in r.events) ≡ true
 packets_are_told k s r t h =
     same_by_times (packets_of (printed s)) (entered_in r.events) (λ x. told_as_entered x k s r t h)

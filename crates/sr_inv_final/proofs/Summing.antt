@@ -5,7 +5,6 @@ use Rattle.std.specs.List.{AllByRecursion}
 use Rattle.sr_law.specs.Ticks.{out_of}
 use Rattle.sr_law.specs.declared.line.Line.{Line}
 use Rattle.sr_machine.specs.Core.{Core, newest_first, pipe_lines, printed, put_line}
-use Rattle.sr_machine.specs.declared.pipe_view.PipeView.{PipeView}
 
 module _ (f : Line → ℕ) where
   put_sum : (l : Line) (lines : List Line) → sum_by f (put_line l lines) ≡ f l + sum_by f lines
