@@ -15,6 +15,7 @@ use Rattle.sr_inv_facts.specs.InUpdate.{ChangesKept, InUpdate, PhasesHold, Versi
 use Rattle.sr_inv_facts.specs.InWords.{InWords}
 use Rattle.sr_inv_facts.specs.Invariant.{Holds, Invariant}
 use Rattle.sr_inv_facts.specs.Laws.{BegunKeeps, EventsKeep, OpensWith}
+use Rattle.sr_inv_filter.proofs.FilterKept.{filter_keep, filter_open, filter_part}
 use Rattle.sr_inv_flight.proofs.FlightsKept.{flights_keep, flights_open, flights_part}
 use Rattle.sr_inv_held.proofs.HeldsKept.{helds_keep, helds_open}
 use Rattle.sr_inv_jobs.proofs.JobsKept.{jobs_keep}
@@ -37,85 +38,90 @@ use Rattle.sr_machine.specs.Core.{Core, opening, run, step_event}
 use Rattle.sr_machine.specs.Keeping.{Brings, begun_core}
 use Rattle.sr_machine.specs.declared.event.Event.{Event}
 
-module _ (filter_open : OpensWith InFilter) (filter_begun : BegunKeeps InFilter) (filter_event : EventsKeep InFilter) where
-  pub invariant_open : OpensWith Invariant
-  invariant_open k f = record {
-    shape = shapes_open k f;
-    words = words_open k f;
-    ticks = ticks_open k f;
-    update = record { update = phases_open k f; versions = versions_open k f; changes = changes_open k f };
-    jobs = jobs_open k f;
-    flight = flights_open k f;
-    matching = matching_opens k f;
-    filter = filter_open k f;
-    openings = openings_open k f;
-    track = track_opens k f;
-    held = helds_open k f;
-    sweeps = sweeps_open k f;
-    causes = causes_open k f;
-  }
+filter_begun : BegunKeeps InFilter
+filter_begun = begun_keeps InFilter filter_part filter_keep
 
-  pub invariant_begun : BegunKeeps Invariant
-  invariant_begun s i = record {
-    shape = begun_keeps InShape (λ s i. i.shape) shapes_keep s i;
-    words = begun_keeps InWords (λ s i. i.words) words_keep s i;
-    ticks = begun_keeps InTicks (λ s i. i.ticks) ticks_keep s i;
-    update = record {
-      update = begun_keeps PhasesHold (λ s i. i.update.update) phases_keep s i;
-      versions = begun_keeps VersionsKept (λ s i. i.update.versions) versions_keep s i;
-      changes = begun_keeps ChangesKept (λ s i. i.update.changes) changes_keep s i;
-    };
-    jobs = begun_keeps InJobs (λ s i. i.jobs) jobs_keep s i;
-    flight = begun_keeps InFlight flights_part flights_keep s i;
-    matching = matching_begun s i;
-    filter = filter_begun s i;
-    openings = openings_begun s i;
-    track = track_begun s i;
-    held = begun_keeps InHeld (λ s i. i.held) helds_keep s i;
-    sweeps = sweeps_begun s i;
-    causes = causes_begun s i;
-  }
+filter_event : EventsKeep InFilter
+filter_event = events_keep InFilter filter_part filter_keep
 
-  pub invariant_event : EventsKeep Invariant
-  invariant_event s t e h a q = record {
-    shape = events_keep InShape (λ s i. i.shape) shapes_keep s t e h a q;
-    words = events_keep InWords (λ s i. i.words) words_keep s t e h a q;
-    ticks = events_keep InTicks (λ s i. i.ticks) ticks_keep s t e h a q;
-    update = record {
-      update = events_keep PhasesHold (λ s i. i.update.update) phases_keep s t e h a q;
-      versions = events_keep VersionsKept (λ s i. i.update.versions) versions_keep s t e h a q;
-      changes = events_keep ChangesKept (λ s i. i.update.changes) changes_keep s t e h a q;
-    };
-    jobs = events_keep InJobs (λ s i. i.jobs) jobs_keep s t e h a q;
-    flight = events_keep InFlight flights_part flights_keep s t e h a q;
-    matching = matching_events s t e h a q;
-    filter = filter_event s t e h a q;
-    openings = openings_event s t e h a q;
-    track = track_events s t e h a q;
-    held = events_keep InHeld (λ s i. i.held) helds_keep s t e h a q;
-    sweeps = sweeps_event s t e h a q;
-    causes = causes_event s t e h a q;
-  }
+pub invariant_open : OpensWith Invariant
+invariant_open k f = record {
+  shape = shapes_open k f;
+  words = words_open k f;
+  ticks = ticks_open k f;
+  update = record { update = phases_open k f; versions = versions_open k f; changes = changes_open k f };
+  jobs = jobs_open k f;
+  flight = flights_open k f;
+  matching = matching_opens k f;
+  filter = filter_open k f;
+  openings = openings_open k f;
+  track = track_opens k f;
+  held = helds_open k f;
+  sweeps = sweeps_open k f;
+  causes = causes_open k f;
+}
 
-  -- ---- runs
+pub invariant_begun : BegunKeeps Invariant
+invariant_begun s i = record {
+  shape = begun_keeps InShape (λ s i. i.shape) shapes_keep s i;
+  words = begun_keeps InWords (λ s i. i.words) words_keep s i;
+  ticks = begun_keeps InTicks (λ s i. i.ticks) ticks_keep s i;
+  update = record {
+    update = begun_keeps PhasesHold (λ s i. i.update.update) phases_keep s i;
+    versions = begun_keeps VersionsKept (λ s i. i.update.versions) versions_keep s i;
+    changes = begun_keeps ChangesKept (λ s i. i.update.changes) changes_keep s i;
+  };
+  jobs = begun_keeps InJobs (λ s i. i.jobs) jobs_keep s i;
+  flight = begun_keeps InFlight flights_part flights_keep s i;
+  matching = matching_begun s i;
+  filter = filter_begun s i;
+  openings = openings_begun s i;
+  track = track_begun s i;
+  held = begun_keeps InHeld (λ s i. i.held) helds_keep s i;
+  sweeps = sweeps_begun s i;
+  causes = causes_begun s i;
+}
 
-  -- an event leads from a state that meets it to one that does
-  pub event_meets : (s t : Core) (e : Event) → Invariant s → Brings IsPacket e → step_event e s ≡ Some t → Invariant t
-  event_meets s t e i a q = invariant_event s t e (record { now = i; begun = invariant_begun s i }) a q
+pub invariant_event : EventsKeep Invariant
+invariant_event s t e h a q = record {
+  shape = events_keep InShape (λ s i. i.shape) shapes_keep s t e h a q;
+  words = events_keep InWords (λ s i. i.words) words_keep s t e h a q;
+  ticks = events_keep InTicks (λ s i. i.ticks) ticks_keep s t e h a q;
+  update = record {
+    update = events_keep PhasesHold (λ s i. i.update.update) phases_keep s t e h a q;
+    versions = events_keep VersionsKept (λ s i. i.update.versions) versions_keep s t e h a q;
+    changes = events_keep ChangesKept (λ s i. i.update.changes) changes_keep s t e h a q;
+  };
+  jobs = events_keep InJobs (λ s i. i.jobs) jobs_keep s t e h a q;
+  flight = events_keep InFlight flights_part flights_keep s t e h a q;
+  matching = matching_events s t e h a q;
+  filter = filter_event s t e h a q;
+  openings = openings_event s t e h a q;
+  track = track_events s t e h a q;
+  held = events_keep InHeld (λ s i. i.held) helds_keep s t e h a q;
+  sweeps = sweeps_event s t e h a q;
+  causes = causes_event s t e h a q;
+}
 
-  -- so do more of them
-  pub run_meets : (events : List Event) (s t : Core) → AllByRecursion (Brings IsPacket) events → run events s ≡ Some t → Invariant s
-      → Invariant t
-  run_meets [] s t a q i = subst Invariant (same_Some s t q) i
-  run_meets (e ∷ rest) s t a q i = by (step_event e s) refl q (λ u. run_meets rest u t a.1)
-    where
-      by : (o : Option Core) → step_event e s ≡ o → option_and_then (run rest) o ≡ Some t
-          → ((u : Core) → run rest u ≡ Some t → Invariant u → Invariant t)
-          → Invariant t
-      by None r g more = cc
-      by (Some u) r g more = more u g (event_meets s u e i a.0 r)
+-- ---- runs
 
-  pub reached_meets : (k : Config) → IsFitted k → (events : List Event) (s : Core) → AllByRecursion (Brings IsPacket) events
-      → run events (opening k) ≡ Some s
-      → Invariant s
-  reached_meets k f events s a q = run_meets events (opening k) s a q (invariant_open k f)
+-- an event leads from a state that meets it to one that does
+pub event_meets : (s t : Core) (e : Event) → Invariant s → Brings IsPacket e → step_event e s ≡ Some t → Invariant t
+event_meets s t e i a q = invariant_event s t e (record { now = i; begun = invariant_begun s i }) a q
+
+-- so do more of them
+pub run_meets : (events : List Event) (s t : Core) → AllByRecursion (Brings IsPacket) events → run events s ≡ Some t → Invariant s
+    → Invariant t
+run_meets [] s t a q i = subst Invariant (same_Some s t q) i
+run_meets (e ∷ rest) s t a q i = by (step_event e s) refl q (λ u. run_meets rest u t a.1)
+  where
+    by : (o : Option Core) → step_event e s ≡ o → option_and_then (run rest) o ≡ Some t
+        → ((u : Core) → run rest u ≡ Some t → Invariant u → Invariant t)
+        → Invariant t
+    by None r g more = cc
+    by (Some u) r g more = more u g (event_meets s u e i a.0 r)
+
+pub reached_meets : (k : Config) → IsFitted k → (events : List Event) (s : Core) → AllByRecursion (Brings IsPacket) events
+    → run events (opening k) ≡ Some s
+    → Invariant s
+reached_meets k f events s a q = run_meets events (opening k) s a q (invariant_open k f)

@@ -2,4 +2,4 @@ pub mod Turns
 pub mod Lowers
 mod Once
 pub mod Picked
-mod Runs
+pub mod Runs
