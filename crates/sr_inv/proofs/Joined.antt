@@ -11,9 +11,9 @@ use Rattle.sr_inv_facts.specs.InHeld.{InHeld}
 use Rattle.sr_inv_facts.specs.InJobs.{InJobs}
 use Rattle.sr_inv_facts.specs.InShape.{InShape}
 use Rattle.sr_inv_facts.specs.InTicks.{InTicks}
-use Rattle.sr_inv_facts.specs.InUpdate.{ChangesKept, InUpdate, PhasesHold, VersionsKept}
+use Rattle.sr_inv_facts.specs.InUpdate.{ChangesKept, PhasesHold, VersionsKept}
 use Rattle.sr_inv_facts.specs.InWords.{InWords}
-use Rattle.sr_inv_facts.specs.Invariant.{Holds, Invariant}
+use Rattle.sr_inv_facts.specs.Invariant.{Invariant}
 use Rattle.sr_inv_facts.specs.Laws.{BegunKeeps, EventsKeep, OpensWith}
 use Rattle.sr_inv_filter.proofs.FilterKept.{filter_keep, filter_open, filter_part}
 use Rattle.sr_inv_flight.proofs.FlightsKept.{flights_keep, flights_open, flights_part}
@@ -35,7 +35,7 @@ use Rattle.sr_inv_words.proofs.WordsKept.{words_keep}
 use Rattle.sr_inv_words.proofs.WordsOpen.{words_open}
 use Rattle.sr_machine.specs.Config.{Config}
 use Rattle.sr_machine.specs.Core.{Core, opening, run, step_event}
-use Rattle.sr_machine.specs.Keeping.{Brings, begun_core}
+use Rattle.sr_machine.specs.Keeping.{Brings}
 use Rattle.sr_machine.specs.declared.event.Event.{Event}
 
 filter_begun : BegunKeeps InFilter

@@ -5,10 +5,9 @@ use Rattle.sr_hash.specs.Uses.{pipe_number}
 use Rattle.sr_inv_facts.proofs.Lists.{all_filtered, all_got, all_images, all_set}
 use Rattle.sr_inv_facts.specs.Fitted.{IsPacket}
 use Rattle.sr_inv_runs.specs.Runs.{ArePackets}
-use Rattle.sr_machine.proofs.Kept.{reaches_more}
 use Rattle.sr_machine.specs.Config.{Config}
 use Rattle.sr_machine.specs.Controller.{controller_op}
-use Rattle.sr_machine.specs.Core.{Core, Reaches, made, opening, step_event}
+use Rattle.sr_machine.specs.Core.{Core, made, opening, step_event}
 use Rattle.sr_machine.specs.Keeping.{Brings}
 use Rattle.sr_machine.specs.Settling.{Follows, More, Over, OrRefusal, awaited, ending_of, follows, on_or, refused, settled_in}
 use Rattle.sr_machine.specs.Turning.{controlled, most_steps, turn_of_op, turned}
@@ -25,7 +24,7 @@ use Rattle.sr_picks.specs.Run.{Rounds, RunsByPicks, packets_in, round_begun}
 use Rattle.sr_picks.specs.Turn.{after, ended_or, turn_in, turn_on}
 use Rattle.sr_rounds.specs.declared.round.Round.{Round}
 use Rattle.sr_rounds.specs.declared.timed.Timed.{Timed}
-use Rattle.std.proofs.Common.{◌≡◌, ℕ, zero, suc, ◌-◌, map, take, drop, filter, slice_set, Bool, true, false, List, [], ◌∷◌, Option, None, Some, refl, sym, ◌∙◌, ap, subst, option_and_then, option_map, unwrap_or, slice_get, ◌==◌, if◌then◌else◌}
+use Rattle.std.proofs.Common.{◌≡◌, ℕ, zero, suc, ◌-◌, map, take, drop, filter, Bool, true, false, List, [], ◌∷◌, Option, None, Some, refl, sym, ◌∙◌, ap, subst, option_and_then, option_map, unwrap_or, slice_get, ◌==◌, if◌then◌else◌}
 use Rattle.std.specs.List.{AllByRecursion, range_with_len}
 
 second_or : {A B : Type 0} → B → Option (A × B) → B

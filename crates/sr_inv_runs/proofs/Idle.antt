@@ -1,10 +1,9 @@
 -- A run by picks leaves every pipe idle.
-use Rattle.std.proofs.Common.{◌≡◌, ℕ, zero, suc, ◌+◌, ◌<◌, ◌≤◌, ◌==◌, ◌&&◌, Bool, true, false, List, [], ◌∷◌, length, slice_get, slice_set, Some, None, Option, option_map, option_and_then, if◌then◌else◌, sym, refl, ap, ◌∙◌, subst, arith}
+use Rattle.std.proofs.Common.{◌≡◌, ℕ, zero, suc, ◌+◌, ◌<◌, ◌==◌, ◌&&◌, Bool, true, false, List, [], ◌∷◌, length, slice_get, Some, None, Option, option_map, if◌then◌else◌, sym, refl, ap, ◌∙◌, subst, arith}
 use Rattle.std.proofs.lemmas.Bool.Decides.{nat_tests}
 use Rattle.std.proofs.lemmas.Option.{same_Some, slice_get_within}
-use Rattle.std.specs.List.{AllByRecursion, list_all, range_with_len}
+use Rattle.std.specs.List.{list_all, range_with_len}
 use Rattle.sr_inv_facts.proofs.Lists.{ranged_at}
-use Rattle.sr_inv_facts.specs.Invariant.{Invariant}
 use Rattle.sr_inv_facts.specs.Readings.{EachPipe}
 use Rattle.sr_inv_runs.proofs.Carried.{settled_keeps}
 use Rattle.sr_machine.specs.Config.{Config}
@@ -23,7 +22,7 @@ use Rattle.sr_machine.specs.declared.pipe_view.PipeView.{PipeView}
 use Rattle.sr_machine.specs.declared.settled.Settled.{Settled}
 use Rattle.sr_machine.specs.declared.view.View.TheVariants.{OfController}
 use Rattle.sr_picks.specs.Play.{Play, PlaysTo, has_ended, is_handled, is_over, pipe_idle, pipes_of, share_of, turns_ended}
-use Rattle.sr_picks.specs.Run.{Rounds, RunsByPicks, round_begun}
+use Rattle.sr_picks.specs.Run.{Rounds, round_begun}
 use Rattle.sr_rounds.specs.declared.round.Round.{Round}
 use Rattle.sr_rounds.specs.declared.timed.Timed.{Timed}
 

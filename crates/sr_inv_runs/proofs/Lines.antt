@@ -1,8 +1,8 @@
 -- The lines of a state that meets the invariant break no clause.
-use Rattle.std.proofs.Common.{◌≡◌, ℕ, suc, ◌+◌, true, List, [], ◌∷◌, ◌++◌, length, slice_get, reverse, Some, None, sym, refl, ap, ◌∙◌, subst}
+use Rattle.std.proofs.Common.{◌≡◌, suc, ◌+◌, true, List, [], ◌∷◌, ◌++◌, length, reverse, None, sym, refl, ap, ◌∙◌, subst}
 use Rattle.std.proofs.lemmas.List.{reverse-reverse}
 use Rattle.sr_inv_facts.proofs.Pipes.{idle}
-use Rattle.sr_inv_facts.specs.InCauses.{AllMeet, ending_at, endings_in, endings_under_way, setup_of}
+use Rattle.sr_inv_facts.specs.InCauses.{AllMeet, ending_at, endings_under_way, setup_of}
 use Rattle.sr_inv_facts.specs.Invariant.{Invariant}
 use Rattle.sr_inv_facts.specs.Readings.{EachPipe}
 use Rattle.sr_inv_runs.specs.Runs.{LinesKeepClauses}
@@ -14,11 +14,9 @@ use Rattle.sr_law.specs.Lawful.{NoLineBreaks, breach_at, broken, first_broken}
 use Rattle.sr_law.specs.Retire.{EndingPacket, endings_of}
 use Rattle.sr_law.specs.Setup.{SetupView}
 use Rattle.sr_law.specs.declared.line.Line.{Line}
-use Rattle.sr_machine.specs.Config.{Config}
 use Rattle.sr_machine.specs.Core.{Core, lines_of, printed}
 use Rattle.sr_machine.specs.Pipe.{is_idle}
 use Rattle.sr_machine.specs.declared.pipe_view.PipeView.{PipeView}
-use Rattle.sr_machine.specs.declared.stage.Stage.TheVariants.{Idle}
 
 -- lines that meet the clauses break none
 none_first : (setup : SetupView) (endings : List EndingPacket) (lines : List Line) → AllMeet setup endings lines

@@ -1,6 +1,6 @@
 -- What is proved of the lines of a run by picks.
 use Rattle.std.specs.List.{AllByRecursion}
-use Rattle.std.specs.Prelude.{◌≡◌, ℕ, List, reverse}
+use Rattle.std.specs.Prelude.{ℕ, List}
 use Rattle.sr_inv_facts.specs.Fitted.{IsFitted, IsPacket}
 use Rattle.sr_inv_facts.specs.InCauses.{setup_of}
 use Rattle.sr_inv_facts.specs.Invariant.{Invariant}
