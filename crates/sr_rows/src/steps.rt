@@ -97,14 +97,19 @@ fn steps_row<'a>(words: &'a str, input: &'a [u8]) -> Row<'a> {
     }
 }
 
+// Whether a row is told so.
+fn is_told<R: Threads + Sync>(rt: &R, alloc: Global, row: &str) -> Result<bool, AllocError> {
+    let (words, rest) = row.split_once('\n').unwrap_or((row, ""));
+    let (segments, wanted) = rest.split_once('\n').unwrap_or((rest, ""));
+    let input = capture(alloc, segments)?;
+    let told = told_with(rt, alloc, steps_row(words, &input), SCENE.as_bytes())?;
+    Ok(told.bytes() == wanted.as_bytes())
+}
+
 // The first row of which something else is told. Empty where there is none.
 fn mistold<R: Threads + Sync>(rt: &R, alloc: Global) -> Result<&'static str, AllocError> {
     for row in ROWS.split("==\n") {
-        let (words, rest) = row.split_once('\n').unwrap_or((row, ""));
-        let (segments, wanted) = rest.split_once('\n').unwrap_or((rest, ""));
-        let input = capture(alloc, segments)?;
-        let told = told_with(rt, alloc, steps_row(words, &input), SCENE.as_bytes())?;
-        if told.bytes() != wanted.as_bytes() {
+        if !is_told(rt, alloc, row)? {
             return Ok(row);
         }
     }
