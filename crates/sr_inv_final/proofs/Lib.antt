@@ -2,7 +2,7 @@ mod Answering
 mod Ending
 mod Entering
 mod HeldLines
-mod Resting
+pub mod Resting
 mod SamePackets
 mod Summing
 mod Telling

@@ -1,0 +1,165 @@
+-- A run by picks ends at rest: no look is in progress where a turn begins, so the last turn has looked at every ring.
+use Rattle.std.proofs.Common.{◌≡◌, ℕ, zero, suc, ◌==◌, Bool, true, false, List, [], ◌∷◌, slice_get, Option, Some, None, option_and_then, option_map, unwrap_or, refl, sym, ap, subst, if◌then◌else◌}
+use Rattle.std.proofs.lemmas.Option.{same_Some}
+use Rattle.sr_base.specs.declared.packet.Packet.{Packet}
+use Rattle.sr_gen.specs.Generator.{next_state}
+use Rattle.sr_inv_rest.proofs.Looks.{NoLook, Stops}
+use Rattle.sr_inv_rest.proofs.Turns.{EndsSo, IsEmptied, turn_so}
+use Rattle.sr_inv_rest.specs.Laws.{PicksEndAtRest}
+use Rattle.sr_inv_final.proofs.Resting.{rests}
+use Rattle.sr_inv_runs.proofs.Picked.{picks_idle, picks_keep}
+use Rattle.sr_machine.specs.Config.{Config}
+use Rattle.sr_machine.specs.Core.{Core, enters, opening, step_event, stepped, told}
+use Rattle.sr_machine.specs.Opening.{opening_controller}
+use Rattle.sr_machine.specs.Pipe.{entered, pipe_op}
+use Rattle.sr_machine.specs.Settling.{Follows, More, Over, OrRefusal, awaited, ending_of, follows, on_or, refused, settled_in}
+use Rattle.sr_machine.specs.Telling.{is_no_earlier, may_refuse}
+use Rattle.sr_machine.specs.Turning.{most_steps}
+use Rattle.sr_machine.specs.declared.actor.Actor.TheVariants as actor
+use Rattle.sr_machine.specs.declared.event.Event.{Event}
+use Rattle.sr_machine.specs.declared.event.Event.TheVariants.{Due, Enter, Refuse, Step}
+use Rattle.sr_machine.specs.declared.pipe_view.PipeView.{PipeView}
+use Rattle.sr_machine.specs.declared.settled.Settled.{Settled}
+use Rattle.sr_machine.specs.declared.turn.Turn.{Turn}
+use Rattle.sr_machine.specs.declared.turn.Turn.TheVariants as turn
+use Rattle.sr_machine.specs.declared.view.View.TheVariants.{OfPipe}
+use Rattle.sr_picks.proofs.Turns.{turns_as}
+use Rattle.sr_picks.specs.Play.{Play, controller_picked, pick, pick_by, picked, pipe_idle, pipe_picked, pipes_of, played, share_of, stepped_by}
+use Rattle.sr_picks.specs.Run.{Rounds, round_begun}
+use Rattle.sr_picks.specs.Turn.{after, turn_of}
+use Rattle.sr_rounds.specs.declared.round.Round.{Round}
+use Rattle.sr_rounds.specs.declared.timed.Timed.{Timed}
+
+-- no look is in progress
+abbrev AtLeisure : Core → Type 0
+AtLeisure s = NoLook s.controller.job
+
+-- ---- what others do leaves the job as it is
+
+abbrev IsOthers : Event → Type 0
+IsOthers (Step actor.Controller) = ⊥
+IsOthers e = Unit {0}
+
+module _ (s t : Core) (h : AtLeisure s) where
+  made_so : {A : Type 0} (f : A → Core) → ((a : A) → AtLeisure (f a)) → (o : Option A) → option_map f o ≡ Some t
+      → AtLeisure t
+  made_so f keep None e = absurd (cc e)
+  made_so f keep (Some a) e = subst AtLeisure (same_Some (f a) t e) (keep a)
+
+  pipe_so : (f : PipeView → Option Core) → ((v : PipeView) → f v ≡ Some t → AtLeisure t) → (o : Option PipeView) → option_and_then f o ≡ Some t
+      → AtLeisure t
+  pipe_so f keep None e = absurd (cc e)
+  pipe_so f keep (Some a) e = keep a e
+
+  others_leave : (e : Event) → IsOthers e → step_event e s ≡ Some t → AtLeisure t
+  others_leave (Step actor.Controller) own e = absurd own
+  others_leave (Step (actor.Pipe p)) own e = at (slice_get s.pipes p) e
+    where
+      at : (o : Option PipeView) → option_and_then (stepped s (actor.Pipe p)) (option_map OfPipe o) ≡ Some t → AtLeisure t
+      at None q = absurd (cc q)
+      at (Some v) q = made_so _ (λ o. h) (pipe_op s.config.layout v v.stage) q
+  others_leave (Enter p packet) own e =
+      pipe_so (enters s p packet) (λ v q. made_so _ (λ w. h) (entered s.config.layout packet v) q) (slice_get s.pipes p) e
+  others_leave (Due ms) own e = at (is_no_earlier s.controller.clock ms) e
+    where
+      at : (b : Bool) → told s (if b then Some (record s.controller { clock = Some ms }) else None) ≡ Some t → AtLeisure t
+      at true q = subst AtLeisure (same_Some _ t q) h
+      at false q = absurd (cc q)
+  others_leave Refuse own e = at (may_refuse s.controller) e
+    where
+      at : (b : Bool) → told s (if b then Some (record s.controller { refusing = true }) else None) ≡ Some t → AtLeisure t
+      at true q = subst AtLeisure (same_Some _ t q) h
+      at false q = absurd (cc q)
+
+-- an event of another actor, made or not
+after_leaves : (s : Core) (e : Event) → IsOthers e → AtLeisure s → AtLeisure (after e s)
+after_leaves s e own h = at (step_event e s) refl
+  where
+    at : (o : Option Core) → step_event e s ≡ o → AtLeisure (unwrap_or o s)
+    at None q = h
+    at (Some t) q = others_leave s t h e own q
+
+-- ---- a round
+
+stepped_leaves : (p : Play) (i : ℕ) (idle : Bool) (share : List Packet) → AtLeisure p.state → AtLeisure (stepped_by p i idle share).state
+stepped_leaves p i true [] h = after_leaves p.state (Step (actor.Pipe i)) tt h
+stepped_leaves p i true (packet ∷ rest) h =
+    after_leaves (after (Enter i packet) p.state) (Step (actor.Pipe i)) tt (after_leaves p.state (Enter i packet) tt h)
+stepped_leaves p i false [] h = after_leaves p.state (Step (actor.Pipe i)) tt h
+stepped_leaves p i false (packet ∷ rest) h = after_leaves p.state (Step (actor.Pipe i)) tt h
+
+picked_leaves : (p : Play) (x : ℕ) (i : Option ℕ) → AtLeisure p.state → AtLeisure (pick_by p x i).state
+picked_leaves p x None h = h
+picked_leaves p x (Some i) h = at (i == pipes_of p)
+  where
+    at : (b : Bool) → AtLeisure (if b then controller_picked p else pipe_picked p i).state
+    at true = (turn_so p.state h).0
+    at false = stepped_leaves p i (pipe_idle (slice_get p.state.pipes i)) (share_of (slice_get p.shares i)) h
+
+played_leaves : (n : ℕ) (p : Play) → AtLeisure p.state → AtLeisure (played n p).state
+played_leaves zero p h = h
+played_leaves (suc n) p h = played_leaves n (pick p) (picked_leaves p (next_state p.generator) (picked p (next_state p.generator)) h)
+
+rounds_leave : (packets : List Timed) (rounds : List Round) (x : ℕ) (s : Core) (y : ℕ) (t : Core) → AtLeisure s → Rounds packets rounds x s y t
+    → AtLeisure t
+rounds_leave packets [] x s y t h e = subst AtLeisure (sym e.1) h
+rounds_leave packets (r ∷ rest) x s y t h (q, to, more) =
+    let there : AtLeisure q.state =
+    subst (λ (p : Play). AtLeisure p.state) to.1
+    (played_leaves to.0 (round_begun packets r x s) (after_leaves s (Due r.start_ms) tt h)) in
+    rounds_leave packets rest q.generator q.state y t there more
+
+-- ---- the turns after the last round
+
+second_same : {A B : Type 0} → (a c : A) (b d : B) → ◌≡◌ {A = Option (A × B)} (Some (a, b)) (Some (c, d)) → b ≡ d
+second_same a c b d e = ap (λ p. p.1) (same_Some (a, b) (c, d) e)
+
+-- the turns are over where one found nothing to do
+over_stops : (s : Core) (a : Turn) → refused s (follows a) ≡ None → Stops a
+over_stops s (turn.Did act) e = cc
+over_stops s (turn.NotYet pipe entered) e = cc
+over_stops s a e = tt
+
+refused_leaves : (s u : Core) (f : Follows) → AtLeisure s → refused s f ≡ Some u → AtLeisure u
+refused_leaves s u More h e = subst AtLeisure (same_Some s u e) h
+refused_leaves s u Over h e = absurd (cc e)
+refused_leaves s u OrRefusal h e = others_leave s u h Refuse tt e
+
+settled_by : (n : ℕ) (s t : Core) (r : Settled) (a : Turn) (o : Option Core) → (turn_of s).answer ≡ Some a
+    → refused (turn_of s).state (follows a) ≡ o
+    → ((u : Core) → AtLeisure u → settled_in n u ≡ Some (r, t) → IsEmptied t) → AtLeisure s
+    → on_or (turn_of s).state (settled_in n) o ≡ Some (r, t) → IsEmptied t
+settled_by n s t r a (Some u) is told next h e = next u (refused_leaves (turn_of s).state u (follows a) (turn_so s h).0 told) e
+settled_by n s t r a None is told next h e =
+    let v = (turn_of s).state in
+    let ends : EndsSo v (Some a) = subst (EndsSo v) is (turn_so s h).1 in
+    subst IsEmptied (second_same (ending_of (awaited v.controller)) r v t e) (ends (over_stops v a told))
+
+-- a turn as it came out is followed by so many more
+abbrev followed : ℕ → Option (Turn × Core) → Option (Settled × Core)
+followed n o = option_and_then (λ (p : Turn × Core). on_or p.1 (settled_in n) (refused p.1 (follows p.0))) o
+
+settled_empties : (n : ℕ) (s t : Core) (r : Settled) → AtLeisure s → settled_in n s ≡ Some (r, t) → IsEmptied t
+settled_empties zero s t r h e = absurd (cc e)
+settled_empties (suc n) s t r h e =
+    let same = turns_as (most_steps s.config.layout) s in
+    at (turn_of s).answer refl (subst (λ o. followed n o ≡ Some (r, t)) (sym same) e) (λ u. settled_empties n u t r)
+  where
+    at : (o : Option Turn) → (turn_of s).answer ≡ o → followed n (option_map (λ a. (a, (turn_of s).state)) o) ≡ Some (r, t)
+        → ((u : Core) → AtLeisure u → settled_in n u ≡ Some (r, t) → IsEmptied t)
+        → IsEmptied t
+    at None is q next = absurd (cc q)
+    at (Some a) is q next = settled_by n s t r a (refused (turn_of s).state (follows a)) is refl next h q
+
+-- ---- the whole run
+
+-- the controller begins without a job
+opening_leisure : (k : Config) → AtLeisure (opening k)
+unfolding opening_controller
+opening_leisure k = tt
+
+pub picks_rest : PicksEndAtRest
+picks_rest k seed packets r t f a h =
+    let free : AtLeisure h.state = rounds_leave packets _ seed (opening k) h.generator h.state (opening_leisure k) h.rounds in
+    let e : IsEmptied t = settled_empties h.settles.0 h.state t r free h.settles.1 in
+    rests t (picks_keep k seed packets r t f a h).0 (picks_idle k seed packets r t f a h) e.0 e.1

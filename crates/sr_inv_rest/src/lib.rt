@@ -1,0 +1,6 @@
+//! A run by picks ends at rest: no packet is in hand, the rings are empty, and the controller has no held opener to answer.
+#![tactic(auto)]
+
+mod laws;
+
+pub use laws::picks_end_at_rest;
