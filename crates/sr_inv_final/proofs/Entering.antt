@@ -90,7 +90,7 @@ module _ (packet : Packet) where
     refusals = λ s q b h. h;
   }
 
-  came_still : (s t : Core) (e : Event) → Brings (λ y. ⊥) e → step_event e s ≡ Some t → sum_by came t.pipes ≡ sum_by came s.pipes
+  pub came_still : (s t : Core) (e : Event) → Brings (λ y. ⊥) e → step_event e s ≡ Some t → sum_by came t.pipes ≡ sum_by came s.pipes
   came_still s t e a q =
       event_keeps (λ y. ⊥) (λ s. Unit {0}) (λ u. sum_by came u.pipes ≡ sum_by came s.pipes) (came_keeps (sum_by came s.pipes)) s t tt tt refl e a q
 

@@ -1,8 +1,8 @@
 mod Answering
-mod Ending
-mod Entering
+pub mod Ending
+pub mod Entering
 mod HeldLines
 pub mod Resting
-mod SamePackets
+pub mod SamePackets
 mod Summing
 mod Telling

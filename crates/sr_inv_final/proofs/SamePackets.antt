@@ -39,7 +39,7 @@ listed_as_often xs ys h (z ∷ zs) =
     and_true (is_as_often xs ys z) (list_all (is_as_often xs ys) zs) (as_often xs ys z (h z)) (listed_as_often xs ys h zs)
 
 -- lists that have each packet as often have the same packets
-same_by_times : (xs ys : List Packet) → ((x : Packet) → times x xs ≡ times x ys) → same_packets xs ys ≡ true
+pub same_by_times : (xs ys : List Packet) → ((x : Packet) → times x xs ≡ times x ys) → same_packets xs ys ≡ true
 same_by_times xs ys h =
     and_true (list_all (is_as_often xs ys) xs) (list_all (is_as_often xs ys) ys) (listed_as_often xs ys h xs) (listed_as_often xs ys h ys)
 
@@ -51,7 +51,7 @@ module _ (packet : Packet) where
   fresh_came a (suc n) =
       omega (arith, sum_by-cons (came packet) (fresh_pipe a) (map fresh_pipe (range_with_len (a + 1) n)), fresh_came (a + 1) n)
 
-  none_came : (k : Config) → sum_by (came packet) (opening k).pipes ≡ 0
+  pub none_came : (k : Config) → sum_by (came packet) (opening k).pipes ≡ 0
   unfolding opening_pipes
   none_came k = fresh_came 0 k.layout.shape.pipes
 
@@ -68,16 +68,20 @@ module _ (packet : Packet) where
   untold (line.Packet number entered out pipe key kind v) h = cc
   untold l h = refl
 
-  told_as_entered : (k : Config) (s : Core) (r : IsReached k s) → InTicks s → AreIdle s
-      → times packet (packets_of (printed s)) ≡ times packet (entered_in r.events)
-  told_as_entered k s r t h =
+  -- where no packet is in hand, the lines tell of what came on the pipes
+  pub told_as_came : (s : Core) → InTicks s → AreIdle s → times packet (packets_of (printed s)) ≡ sum_by (came packet) s.pipes
+  told_as_came s t h =
       let own = all_then (λ l. is_controller l ≡ true) (λ l. told_times packet l ≡ 0) untold s.controller.lines t.controller.own in
       let none = zero_sum (told_times packet) s.controller.lines own in
       let lines = told_sum packet (printed s) ∙ printed_sum (told_times packet) s in
-      omega (arith, none, lines, idle_came s.pipes h, came_in_run packet r.events (opening k) s r.leads, none_came k)
+      omega (arith, none, lines, idle_came s.pipes h)
+
+  -- and what came is what entered
+  pub came_as_entered : (k : Config) (s : Core) (r : IsReached k s) → sum_by (came packet) s.pipes ≡ times packet (entered_in r.events)
+  came_as_entered k s r = omega (arith, came_in_run packet r.events (opening k) s r.leads, none_came k)
 
 -- the packets of the lines are those that entered
 pub packets_are_told : (k : Config) (s : Core) (r : IsReached k s) → InTicks s → AreIdle s
     → same_packets (packets_of (printed s)) (entered_in r.events) ≡ true
 packets_are_told k s r t h =
-    same_by_times (packets_of (printed s)) (entered_in r.events) (λ x. told_as_entered x k s r t h)
+    same_by_times (packets_of (printed s)) (entered_in r.events) (λ x. told_as_came x s t h ∙ came_as_entered x k s r)

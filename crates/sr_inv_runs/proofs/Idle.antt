@@ -36,7 +36,7 @@ parts false b e = cc
 
 -- ---- a round that is over
 
-all_at : (test : ℕ → Bool) (low count n : ℕ) → list_all test (range_with_len low count) ≡ true → n < count → test (low + n) ≡ true
+pub all_at : (test : ℕ → Bool) (low count n : ℕ) → list_all test (range_with_len low count) ≡ true → n < count → test (low + n) ≡ true
 all_at test low zero n e h = absurd (omega arith)
 all_at test low (suc count) zero e h = ap test (omega arith) ∙ (parts (test low) (list_all test (range_with_len (low + 1) count)) e).0
 all_at test low (suc count) (suc n) e h =

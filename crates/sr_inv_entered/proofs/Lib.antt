@@ -1,0 +1,5 @@
+mod Ending
+mod Playing
+mod Rounding
+mod Sharing
+mod Standing
