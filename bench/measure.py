@@ -8,6 +8,7 @@ copy of crates.txt, and `rt run` it there. Each figure is the best of five runs,
 import os
 import platform
 import shutil
+import struct
 import subprocess
 import sys
 import tempfile
@@ -43,6 +44,22 @@ def row(name, packets, seconds, peak):
     rate = packets / seconds / 1e6
     each = f"{peak / packets:.0f}" if peak > FLOOR else ""
     return f"| {name} | {packets:,} | {seconds:.3f} | {rate:.2f} | {peak / 1e6:.1f} | {each} |"
+
+
+def as_pcapng(capture, path):
+    """Writes the packets of a capture that `make` made as pcapng: a section, an interface of raw IP, and a block for each packet."""
+    record = struct.Struct("<IIII40s")
+    block = struct.Struct("<IIIIIII40sI")
+    with open(capture, "rb") as source, open(path, "wb") as out:
+        source.read(24)
+        out.write(struct.pack("<IIIHHqI", 0x0A0D0D0A, 28, 0x1A2B3C4D, 1, 0, -1, 28))
+        out.write(struct.pack("<IIHHII", 1, 20, 101, 0, 262144, 20))
+        while records := source.read(record.size * 65536):
+            blocks = bytearray()
+            for seconds, rest, size, original, frame in record.iter_unpack(records):
+                time_us = seconds * 1_000_000 + rest
+                blocks += block.pack(6, block.size, 0, time_us >> 32, time_us & 0xFFFFFFFF, size, original, frame, block.size)
+            out.write(blocks)
 
 
 def log_of(program, capture, path, last=b""):
@@ -92,6 +109,11 @@ def main():
             rows.append(row("`silkroad make`", packets, seconds, peak))
             seconds, peak = best([program, *ONE], path)
             rows.append(row("`silkroad one`", packets, seconds, peak))
+            blocks = os.path.join(folder, "blocks.pcapng")
+            as_pcapng(path, blocks)
+            seconds, peak = best([program, *ONE], blocks)
+            rows.append(row("`silkroad one`, pcapng", packets, seconds, peak))
+            os.remove(blocks)
             if packets != SIZES[0]:
                 continue
             if shutil.which("tcpdump"):
