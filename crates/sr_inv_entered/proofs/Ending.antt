@@ -14,6 +14,7 @@ use Rattle.sr_inv_final.proofs.Ending.{final_of}
 use Rattle.sr_inv_final.proofs.Entering.{came, times}
 use Rattle.sr_inv_final.proofs.SamePackets.{came_as_entered, same_by_times, told_as_came}
 use Rattle.sr_inv_final.specs.Reached.{IsReached, entered_in}
+use Rattle.sr_inv_rest.proofs.Resting.{picks_rest}
 use Rattle.sr_inv_runs.proofs.Carried.{run_keeps, settled_keeps}
 use Rattle.sr_inv_runs.proofs.Picked.{picks_keep}
 use Rattle.sr_law.specs.Final.{packets_of}
@@ -56,11 +57,12 @@ enter_all k seed packets r t l a h reached =
     same_by_times (entered_in reached.events) (given packets)
     (λ x. sym (came_as_entered x k t reached) ∙ came_as_given k x seed packets r t l a h)
 
--- at rest the lines tell of these packets
+-- its lines tell of these packets
 pub picks_final : PicksAreFinal
-picks_final k seed packets r t f are a h rest =
+picks_final k seed packets r t f are a h =
     let i = (picks_keep k seed packets r t f are h).0 in
     let config = reached_config k t (run_reached k seed packets r t h) in
+    let rest = picks_rest k seed packets r t f are h in
     let own = λ (x : Packet). told_as_came x t i.ticks rest.idle ∙ came_as_given k x seed packets r t f.layout a h in
     final_of k t (given packets) config i rest (same_by_times (packets_of (printed t)) (given packets) own)
 

@@ -1,4 +1,5 @@
 mod Ending
+mod Lawful
 mod Playing
 mod Rounding
 mod Sharing

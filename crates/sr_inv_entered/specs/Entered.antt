@@ -5,11 +5,12 @@ use Rattle.sr_base.specs.Layout.{IsLayout}
 use Rattle.sr_base.specs.declared.packet.Packet.{Packet}
 use Rattle.sr_inv_facts.specs.Fitted.{IsFitted}
 use Rattle.sr_inv_final.specs.Reached.{IsReached, entered_in}
-use Rattle.sr_inv_final.specs.Rest.{IsAtRest, setup_with}
+use Rattle.sr_inv_final.specs.Rest.{setup_with}
 use Rattle.sr_inv_runs.specs.Runs.{ArePackets}
 use Rattle.sr_law.specs.Final.{meets_final, same_packets}
+use Rattle.sr_law.specs.Lawful.{IsLawful}
 use Rattle.sr_machine.specs.Config.{Config}
-use Rattle.sr_machine.specs.Core.{Core, printed}
+use Rattle.sr_machine.specs.Core.{Core, lines_of, printed}
 use Rattle.sr_machine.specs.Pipe.{has_vip}
 use Rattle.sr_machine.specs.declared.settled.Settled.{Settled}
 use Rattle.sr_picks.specs.Run.{RunsByPicks}
@@ -41,9 +42,16 @@ PicksEnterAll =
     → RunsByPicks k seed packets r t
     → (h : IsReached k t) → same_packets (entered_in h.events) (given packets) ≡ true
 
--- so at rest its lines are those of a whole run of them
+-- so its lines are those of a whole run of them
 abbrev pub PicksAreFinal : Type 0
 PicksAreFinal =
     (k : Config) (seed : ℕ) (packets : List Timed) (r : Settled) (t : Core) → IsFitted k → ArePackets packets → AreTakable k packets
-    → RunsByPicks k seed packets r t → IsAtRest t
+    → RunsByPicks k seed packets r t
     → meets_final (setup_with k (given packets)) (printed t) ≡ true
+
+-- and they are lawful for what the machine was made for and these packets
+abbrev pub PicksAreLawful : Type 0
+PicksAreLawful =
+    (k : Config) (seed : ℕ) (packets : List Timed) (r : Settled) (t : Core) → IsFitted k → ArePackets packets → AreTakable k packets
+    → RunsByPicks k seed packets r t
+    → IsLawful (setup_with k (given packets)) (lines_of t)

@@ -1,7 +1,7 @@
-//! A run by picks lets in the packets that it is given, each as often as it is given: so its lines at rest are those of a whole run of
-//! these packets.
+//! A run by picks lets in the packets that it is given, each as often as it is given; so, since it ends at rest, its lines are lawful
+//! for these packets.
 #![tactic(auto)]
 
 mod laws;
 
-pub use laws::{picks_are_final, picks_enter_all};
+pub use laws::{picks_are_final, picks_are_lawful, picks_enter_all};

@@ -1,3 +1,3 @@
 mod Looks
 mod Turns
-mod Resting
+pub mod Resting
