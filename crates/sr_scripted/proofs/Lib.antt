@@ -1,1 +1,2 @@
 mod Newest
+pub mod Keeps

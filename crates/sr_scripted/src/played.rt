@@ -1,10 +1,11 @@
 ghost use Rattle.std.specs.Prelude.{◌≡◌, IfOk};
+ghost use Rattle.sr_inv_runs.specs.Runs.{ArePackets};
 ghost use Rattle.sr_script.specs.Fitting.{IsFitting};
 ghost use Rattle.sr_script.specs.Script.{spelled};
 ghost use Rattle.sr_scripted.specs.Played.{Plays, settled_for};
 
 use crate::{config_of, in_order};
-use sr_base::Key;
+use sr_base::{Key, key_ranges};
 use sr_law::Line;
 use sr_machine::Settled;
 use sr_rounds::Timed;
@@ -31,11 +32,21 @@ pub fn play_script(
     requires { IsFitting (spelled script) }
     ensures { IfOk result (λ played. Plays (spelled script) seed packets.now played.lines.items played.awaited) }
 {
+    packets_ranges(packets);
     let config = config_of(alloc, script)?;
     let run = run_by_picks(alloc, config, packets, seed)?;
     let awaited = awaited(run.settled)?;
     let lines = in_order(run.core.all_lines(alloc)?)?;
     Ok(Played { lines, awaited })
+}
+
+// The ranges of the parts of packets' keys.
+fn packets_ranges(packets: &[Timed])
+    ensures { ArePackets packets.now }
+{
+    for timed in packets {
+        key_ranges(timed.packet.key);
+    }
 }
 
 // The key that an update waits for after turns that ended so, if one does.
