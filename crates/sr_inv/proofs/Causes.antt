@@ -45,24 +45,26 @@ pub record EachClause (setup : SetupView) (endings : List EndingPacket) (lines :
 
 pub all_meet : (setup : SetupView) (endings : List EndingPacket) (lines : List Line) → EachClause setup endings lines → AllMeet setup endings lines
 all_meet setup endings [] c = tt
-all_meet setup endings (l ∷ before) c =
-    (record {
-      order = c.order.0;
-      server = c.server.0;
-      same = c.same.0;
-      newer = c.newer.0;
-      number = c.number.0;
-      cause = c.cause.0;
-      retire = c.retire.0;
-    }, all_meet setup endings before (record {
-      order = c.order.1;
-      server = c.server.1;
-      same = c.same.1;
-      newer = c.newer.1;
-      number = c.number.1;
-      cause = c.cause.1;
-      retire = c.retire.1;
-    }))
+all_meet setup endings (l ∷ before) c = (
+  record {
+    order = c.order.0;
+    server = c.server.0;
+    same = c.same.0;
+    newer = c.newer.0;
+    number = c.number.0;
+    cause = c.cause.0;
+    retire = c.retire.0;
+  },
+  all_meet setup endings before (record {
+    order = c.order.1;
+    server = c.server.1;
+    same = c.same.1;
+    newer = c.newer.1;
+    number = c.number.1;
+    cause = c.cause.1;
+    retire = c.retire.1;
+  }),
+)
 
 joined : (s : Core) → FlightsCaused s → DowningUnknown s → ReportsTold s
     → EachClause (setup_of s.config) (endings_in s.pipes (printed s)) (printed s)

@@ -1,5 +1,5 @@
 mod Ending
-mod Lawful
+pub mod Lawful
 mod Playing
 mod Rounding
 mod Sharing

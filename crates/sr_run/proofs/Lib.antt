@@ -10,4 +10,5 @@ mod PrintedLines
 mod Running
 mod Sorting
 mod Stepping
+mod Taking
 mod Writing

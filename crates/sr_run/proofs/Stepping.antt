@@ -10,16 +10,21 @@ use Rattle.sr_io.specs.Sink.{SinkKnown, Adds}
 use Rattle.sr_io.specs.Source.{SourceKnown}
 use Rattle.sr_io.proofs.Adding.{adds_nothing}
 use Rattle.sr_io.proofs.Counting.{counts_as, counts_none}
+use Rattle.sr_law.proofs.Kept.{kept}
+use Rattle.sr_law.proofs.Switches.{newer}
 use Rattle.sr_pcap.specs.declared.begin_refusal.BeginRefusal.{BeginRefusal}
 use Rattle.sr_pcap.specs.declared.begin_refusal.BeginRefusal.TheVariants as begin
 use Rattle.sr_rounds.specs.declared.timed.Timed.{Timed}
+use Rattle.sr_script.specs.Fitting.{IsFitting}
 use Rattle.sr_script.specs.Spelled.{Spelled}
 use Rattle.sr_script.specs.declared.script.Script.{Script as AScript}
 use Rattle.sr_script.specs.declared.refusal.ScriptRefusal.{ScriptRefusal}
 use Rattle.sr_run.specs.Capture.{header_refusal, status_without}
+use Rattle.sr_run.proofs.Taking.{takable}
+use Rattle.sr_run.specs.LawfulLog.{IsLawfulLog}
 use Rattle.sr_run.specs.Outside.{Outside, WritesNothing}
 use Rattle.sr_run.specs.ScriptText.{IsScript, Fetches, IsReady}
-use Rattle.sr_run.specs.Steps.{EndsCapture, EndsSteps, IsLogOf, IsRunOf, PlaysCapture, PlaysCaptured, StepsSay, status_after, steps_packets, timed}
+use Rattle.sr_run.specs.Steps.{EndsCapture, EndsSteps, IsLogOf, IsRunOf, PlaysCapture, PlaysCaptured, StepsSay, status_after, steps_packets, steps_setup, steps_skips, timed}
 use Rattle.sr_run.specs.declared.status.Status.{Status}
 use Rattle.sr_run.specs.declared.status.Status.TheVariants.{Done, Usage, Script, Capture, ReadFault, WriteFault, Memory, Waiting, Breach}
 
@@ -49,17 +54,21 @@ unread_ends begin.Memory = tt
 -- ---- a capture that was read, and played
 
 module _ (s : Spelled) (seed : ℕ) (xs : List ℕ) (captured : Captured Timed) (records : Records) (taken : capture_of xs ≡ Ok records)
-    (source : SourceKnown) (keeps : Keeps timed s.vips records source.left captured) where
+    (source : SourceKnown) (keeps : Keeps timed s.vips records source.left captured) (fits : IsFitting s) where
+  -- a log of the run has lawful lines
+  lawful_log : (awaited : Option KeyView) (log : List ℕ) → IsLogOf s seed (steps_skips s records) (steps_packets s records) awaited log
+      → IsLawfulLog (steps_setup s records) (steps_skips s records) log
+  lawful_log awaited log is =
+      let h = is.plays.lawful (takable s xs records fits taken) in
+      record { lines = is.lines; printed = is.printed; lawful = h; kept = kept _ _ is.lines h.0; newer = newer _ _ is.lines h.0 }
+
   -- the log of what was kept is that of the run
   run_of : (awaited : Option KeyView) (log : List ℕ) → IsLogOf s seed captured.skips.items captured.packets.items awaited log
       → IsRunOf s seed xs captured.ending awaited log
-  run_of awaited log is = record {
-    records = records;
-    taken = taken;
-    ended = sym keeps.ending;
-    is_log = subst (λ k. IsLogOf s seed k (steps_packets s records) awaited log) keeps.skips
-        (subst (λ k. IsLogOf s seed captured.skips.items k awaited log) keeps.packets is);
-  }
+  run_of awaited log is =
+      let whole = subst (λ k. IsLogOf s seed k (steps_packets s records) awaited log) keeps.skips
+      (subst (λ k. IsLogOf s seed captured.skips.items k awaited log) keeps.packets is) in
+      record { records = records; taken = taken; ended = sym keeps.ending; is_log = whole; lawful = lawful_log awaited log whole }
 
   run_with : (ending : Option CaptureRefusal) (awaited : Option KeyView) (log : List ℕ) → captured.ending ≡ ending
       → IsLogOf s seed captured.skips.items captured.packets.items awaited log → IsRunOf s seed xs ending awaited log

@@ -1,5 +1,5 @@
 -- What the command `steps` does: a capture is played by a script, step by step, as a generator picks.
-use Rattle.std.specs.Prelude.{◌≡◌, ◌⊎◌, ℕ, List, [], Option, Some, None, Ok, Err}
+use Rattle.std.specs.Prelude.{◌≡◌, ◌⊎◌, ℕ, List, [], length, map, Option, Some, None, Ok, Err}
 use Rattle.std.specs.Option.{ForSome}
 use Rattle.sr_base.specs.Key.{KeyView}
 use Rattle.sr_base.specs.declared.packet.Packet.{Packet}
@@ -13,6 +13,8 @@ use Rattle.sr_io.specs.Faults.{Rose}
 use Rattle.sr_io.specs.Sink.{SinkKnown, Adds, AddsFront, Writes}
 use Rattle.sr_io.specs.Source.{SourceKnown}
 use Rattle.sr_io.specs.declared.sink.Put.TheVariants as put
+use Rattle.sr_law.specs.Pools.{pools_from}
+use Rattle.sr_law.specs.Setup.{SetupView}
 use Rattle.sr_law.specs.declared.line.Line.{Line}
 use Rattle.sr_pcap.specs.declared.begin_refusal.BeginRefusal.{BeginRefusal}
 use Rattle.sr_rounds.specs.declared.timed.Timed.{Timed}
@@ -22,6 +24,7 @@ use Rattle.sr_script.specs.declared.refusal.ScriptRefusal.{ScriptRefusal}
 use Rattle.sr_scripted.specs.Played.{Plays}
 use Rattle.sr_text.specs.LineText.{log_text}
 use Rattle.sr_run.specs.Capture.{header_refusal}
+use Rattle.sr_run.specs.LawfulLog.{IsLawfulLog}
 use Rattle.sr_run.specs.Outside.{Outside}
 use Rattle.sr_run.specs.ScriptText.{IsScript, IsNoScript}
 use Rattle.sr_run.specs.declared.status.Status.{Status}
@@ -73,12 +76,24 @@ PlaysCaptured status s seed captured before after = ⊥
 
 -- ---- a script and the bytes of a capture
 
--- The bytes are a capture with whole records that ended so, and this is the log of their run, with this key waited for in the end.
+-- what the lines of a run are judged by: the script's shape, servers and pools, and the packets of the capture
+abbrev pub steps_setup : Spelled → Records → SetupView
+steps_setup s records = record {
+  shape = s.shape;
+  servers = length s.servers;
+  pools = pools_from 0 s.first s.changes;
+  packets = map (λ t. t.packet) (steps_packets s records);
+}
+
+-- The bytes are a capture with whole records that ended so, and this is the log of their run, with this key waited for in the end. Whatever the seed
+-- picks, the lines are lawful: so the packets of an open connection go to the server of its opening, a connection that is opened after a switch uses that
+-- pool or a later one, and each packet has its one final line.
 pub record IsRunOf (s : Spelled) (seed : ℕ) (bytes : List ℕ) (ending : Option CaptureRefusal) (awaited : Option KeyView) (log : List ℕ) : Type 0 where
   pub records : Records
   pub taken : capture_of bytes ≡ Ok records
   pub ended : records.ending ≡ ending
   pub is_log : IsLogOf s seed (steps_skips s records) (steps_packets s records) awaited log
+  pub lawful : IsLawfulLog (steps_setup s records) (steps_skips s records) log
 
 -- the whole capture was read, and the log of its run was printed
 abbrev pub PlaysAll : Option KeyView → Spelled → ℕ → List ℕ → SourceKnown → SinkKnown → SinkKnown → Type 0

@@ -1,10 +1,29 @@
--- A script that is good for a run is for a machine that a run may begin with.
-use Rattle.std.proofs.Common.{◌≡◌, refl}
+-- What is left of a script's run, with what the lines of every run are.
+use Rattle.std.proofs.Common.{ℕ, List, Option, subst, sym, refl}
 use Rattle.sr_base.proofs.Ranges.{layout_ranges}
+use Rattle.sr_base.specs.Key.{KeyView}
+use Rattle.sr_inv_entered.proofs.Lawful.{picks_lawful}
+use Rattle.sr_inv_entered.specs.Entered.{given}
 use Rattle.sr_inv_facts.specs.Fitted.{IsFitted}
+use Rattle.sr_inv_final.specs.Rest.{setup_with}
+use Rattle.sr_inv_runs.specs.Runs.{ArePackets}
+use Rattle.sr_law.specs.Lawful.{IsLawful}
+use Rattle.sr_law.specs.declared.line.Line.{Line}
+use Rattle.sr_rounds.specs.declared.timed.Timed.{Timed}
 use Rattle.sr_script.specs.Fitting.{IsFitting}
 use Rattle.sr_script.specs.Spelled.{Spelled}
 use Rattle.sr_scripted.specs.Config.{config_of}
+use Rattle.sr_scripted.specs.Played.{LeadsTo, Plays, settled_for}
 
+-- a script that is good is for a machine that may run
 pub fitted : (s : Spelled) → IsFitting s → IsFitted (config_of s)
 fitted s h = record { layout = layout_ranges _ _ _ h.layout; first = s.first; fits = h.fits; pools = refl }
+
+pub plays : (s : Spelled) (seed : ℕ) (packets : List Timed) (lines : List Line) (awaited : Option KeyView) → IsFitting s → ArePackets packets
+    → LeadsTo s seed packets lines awaited → Plays s seed packets lines awaited
+plays s seed packets lines awaited f a h = record {
+  leads = h;
+  lawful = λ may.
+      subst (IsLawful (setup_with (config_of s) (given packets))) (sym h.all)
+      (picks_lawful (config_of s) seed packets (settled_for awaited) h.state (fitted s f) a may h.runs);
+}

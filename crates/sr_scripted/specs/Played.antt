@@ -1,7 +1,9 @@
 -- What is left of a script's run by single steps.
 use Rattle.std.specs.Prelude.{◌≡◌, ℕ, List, Option, None, Some}
 use Rattle.sr_base.specs.Key.{KeyView}
-use Rattle.sr_inv_runs.specs.Runs.{LinesKeepClauses}
+use Rattle.sr_inv_entered.specs.Entered.{AreTakable, given}
+use Rattle.sr_inv_final.specs.Rest.{setup_with}
+use Rattle.sr_law.specs.Lawful.{IsLawful}
 use Rattle.sr_law.specs.declared.line.Line.{Line}
 use Rattle.sr_machine.specs.Core.{Core, lines_of}
 use Rattle.sr_machine.specs.declared.settled.Settled.{Settled}
@@ -16,11 +18,15 @@ abbrev pub settled_for : Option KeyView → Settled
 settled_for None = Quiet
 settled_for (Some key) = Waiting key
 
--- The run by picks of these packets leads from the beginning of the script's machine to a state with these lines, by their ticks; and its turns end
--- with this key waited for, if with any. The lines break no clause: so the packets of an open connection go to the server of its opening, and a
--- connection that is opened after a switch uses that pool or a later one.
-pub record Plays (s : Spelled) (seed : ℕ) (packets : List Timed) (lines : List Line) (awaited : Option KeyView) : Type 0 where
+-- the run by picks of these packets leads from the beginning of the script's machine to a state with these lines, by their ticks; and its turns end
+-- with this key waited for, if with any
+pub record LeadsTo (s : Spelled) (seed : ℕ) (packets : List Timed) (lines : List Line) (awaited : Option KeyView) : Type 0 where
   pub state : Core
   pub runs : RunsByPicks (config_of s) seed packets (settled_for awaited) state
   pub all : lines ≡ lines_of state
-  pub keeps : LinesKeepClauses (config_of s) state
+
+-- The run leads to these lines. They are lawful for the script's shape, servers and pools and the packets, where each packet is to a virtual address of
+-- the script, and there are fewer than 2^32.
+pub record Plays (s : Spelled) (seed : ℕ) (packets : List Timed) (lines : List Line) (awaited : Option KeyView) : Type 0 where
+  pub leads : LeadsTo s seed packets lines awaited
+  pub lawful : AreTakable (config_of s) packets → IsLawful (setup_with (config_of s) (given packets)) lines

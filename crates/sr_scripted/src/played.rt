@@ -2,7 +2,7 @@ ghost use Rattle.std.specs.Prelude.{◌≡◌, IfOk};
 ghost use Rattle.sr_inv_runs.specs.Runs.{ArePackets};
 ghost use Rattle.sr_script.specs.Fitting.{IsFitting};
 ghost use Rattle.sr_script.specs.Script.{spelled};
-ghost use Rattle.sr_scripted.specs.Played.{Plays, settled_for};
+ghost use Rattle.sr_scripted.specs.Played.{LeadsTo, Plays, settled_for};
 
 use crate::{config_of, in_order};
 use sr_base::{Key, key_ranges};
@@ -33,6 +33,20 @@ pub fn play_script(
     ensures { IfOk result (λ played. Plays (spelled script) seed packets.now played.lines.items played.awaited) }
 {
     packets_ranges(packets);
+    let played = run_script(alloc, script, packets, seed)?;
+    Ok(played)
+}
+
+// The same, step by step.
+fn run_script(
+    alloc: Global,
+    script: Script,
+    packets: &[Timed],
+    seed: u64,
+) -> Result<Played, AllocError>
+    requires { IsFitting (spelled script) }
+    ensures { IfOk result (λ played. LeadsTo (spelled script) seed packets.now played.lines.items played.awaited) }
+{
     let config = config_of(alloc, script)?;
     let run = run_by_picks(alloc, config, packets, seed)?;
     let awaited = awaited(run.settled)?;

@@ -9,7 +9,7 @@ pub returns-in-Ok-clause-log : goal.returns-in-Ok-clause-log
 returns-in-Ok-clause-log g c = λ xs e.
     let source = g.S.Source.known c.read_capture.new.source in
     let read = subst (λ vips. Reads timed (Ok c.in-Ok.captured) vips xs source.left) c.deref.ensures.value (c.in-Ok.ensures.capture xs e) in
-    plays_read (spelled c.args.script) c.args.seed xs c.in-Ok.captured read.0 read.1 source read.2 c.play_captured.result
+    plays_read (spelled c.args.script) c.args.seed xs c.in-Ok.captured read.0 read.1 source read.2 c.requires c.play_captured.result
     (g.K.Sink.known c.args.sink.now) (g.K.Sink.known c.play_captured.new.sink) c.play_captured.ensures
 
 pub returns-in-Err-clause-log : goal.returns-in-Err-clause-log

@@ -1,4 +1,4 @@
-use Rattle.std.proofs.Common.{◌≡◌, [], All, take, subst, arith}
+use Rattle.std.proofs.Common.{[], All, subst}
 use Rattle.std.proofs.lemmas.List.Elements.{All-from_recursion, All-more, recursion_from_All}
 use Rattle.std.proofs.lemmas.List.{take_all}
 use Rattle.sr_inv_facts.specs.Fitted.{IsPacket}
@@ -16,4 +16,4 @@ loop-timed-preserved c =
 pub returns : goal.returns
 returns c =
     recursion_from_All (λ (t : Timed). IsPacket t.packet) c.args.packets.now
-    (subst (All (λ (t : Timed). IsPacket t.packet)) (take_all c.args.packets.now c.loop-timed.timed-index c.loop-timed-test.false) c.loop-timed.invariant)
+    (subst (All (λ (t : Timed). IsPacket t.packet)) (take_all c.loop-timed.timed-index c.args.packets.now c.loop-timed-test.false) c.loop-timed.invariant)
