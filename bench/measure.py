@@ -1,9 +1,10 @@
 #!/usr/bin/env python3
 """Times the commands that exist on captures of 200,000 and 4,194,304 packets, and writes RESULTS.md beside this file.
 
-Usage: measure.py PROGRAM [BOOK]. PROGRAM is the built program (crates/silkroad/out/silkroad). BOOK is the built program of book_main.txt, which
+Usage: measure.py PROGRAM [BOOK [PIPE]]. PROGRAM is the built program (crates/silkroad/out/silkroad). BOOK is the built program of book_main.txt, which
 takes keys into the controller's book and retires them: put it as src/main.rt into a crate `book`, with the line `book: sr_shadow sr_base` in a
-copy of crates.txt, and `rt run` it there. Each figure is the best of five runs, of `tcpdump` one, over the smaller capture alone. It is no test.
+copy of crates.txt, and `rt run` it there. PIPE is that of pipe_main.txt, which handles packets over plain words: a crate `pipe_bench` with the files of pipe_proofs.txt
+and the line `pipe_bench: sr_scripted sr_script sr_plain sr_pipe sr_core sr_acts sr_machine sr_law sr_hash sr_base sr_io`. Each figure is the best of five runs, of `tcpdump` one, over the smaller capture alone. It is no test.
 """
 import os
 import platform
@@ -97,6 +98,28 @@ def books(program):
         yield row("the book: take, then retire", keys, seconds, peak)
 
 
+def spent(command, runs=5):
+    """The least processor time in seconds of so many runs, and the peak memory in bytes of the last."""
+    times = []
+    for _ in range(runs):
+        child = subprocess.Popen(command, stdin=subprocess.DEVNULL, stdout=subprocess.DEVNULL)
+        _, _, usage = os.wait4(child.pid, 0)
+        times.append(usage.ru_utime + usage.ru_stime)
+    return min(times), usage.ru_maxrss * 1024
+
+
+def pipes(program):
+    """Rows of a pipe: packets that are handled one after another, without what comes before them."""
+    count = 4_194_304
+    for mode, without, name in (
+        ("hit", ["hit", "0"], "data that hits in way 1"),
+        ("miss", ["miss", "0"], "data that misses"),
+        ("open", ["none", str(count)], "openers that learn"),
+    ):
+        seconds, peak = spent([program, mode, str(count)])
+        yield row(f"`Pipe::handle`, plain words: {name}", count, seconds - spent([program, *without])[0], peak)
+
+
 def main():
     program = os.path.abspath(sys.argv[1])
     rows = []
@@ -124,6 +147,8 @@ def main():
         rows.extend(audits(program, folder))
         if len(sys.argv) > 2:
             rows.extend(books(os.path.abspath(sys.argv[2])))
+        if len(sys.argv) > 3:
+            rows.extend(pipes(os.path.abspath(sys.argv[3])))
     cores = os.cpu_count()
     text = (
         "# Measurements\n\n"
