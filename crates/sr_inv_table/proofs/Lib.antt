@@ -1,0 +1,5 @@
+pub mod Loading
+pub mod Recorders
+pub mod Ringing
+pub mod Tabling
+pub mod Ticking

@@ -1,0 +1,5 @@
+pub mod Cells
+pub mod Clearing
+pub mod Drawn
+pub mod Loaded
+pub mod Standing
