@@ -1,4 +1,6 @@
 pub mod Loading
+pub mod Matching
+pub mod OneVersion
 pub mod Recorders
 pub mod Ringing
 pub mod Tabling

@@ -56,7 +56,13 @@ module _ (s : Core) (i : Invariant s) where
     in_time : (s.words (name.Vip f.packet.key.vip) ≡ packed_vip f.vip) ⊎ InGrace s.controller.job (LoadedBefore s f) → IsInTime s f.packet.key.vip
     in_time (inl same) = inl (f.vip, same, e)
     in_time (inr h) =
-        inr (grace_has s.controller.job (LoadedBefore s f) (IsIn s f.packet.key.vip Holding) holds_now h, grace_then s.controller.job (LoadedBefore s f) (λ u phase. (f.packet.key.vip ≡ u.vip) × (phase ≡ Holding)) (λ u phase k. (k.own, is_holding u phase k)) h)
+        inr (grace_has s.controller.job (LoadedBefore s f) (IsIn s f.packet.key.vip Holding) holds_now h, grace_then s.controller.job (LoadedBefore s f) Held held h)
+      where
+        Held : PoolUpdate → Phase → Type 0
+        Held u phase = (f.packet.key.vip ≡ u.vip) × (phase ≡ Holding)
+
+        held : (u : PoolUpdate) (phase : Phase) → LoadedBefore s f u phase → Held u phase
+        held u phase k = (k.own, is_holding u phase k)
 
   stage_time : (a : Stage)
       → OnFlight a (λ f. (s.words (name.Vip f.packet.key.vip) ≡ packed_vip f.vip) ⊎ InGrace s.controller.job (LoadedBefore s f))

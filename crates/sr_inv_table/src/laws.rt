@@ -4,7 +4,9 @@ ghost use Rattle.sr_inv_facts.specs.Invariant.{Invariant};
 ghost use Rattle.sr_inv_table.specs.Clearing.{FilterIsClear, RecordersAreInTime};
 ghost use Rattle.sr_inv_table.specs.Cells.{RingsHold};
 ghost use Rattle.sr_inv_table.specs.Drawn.{TicksHold};
+ghost use Rattle.sr_inv_table.specs.Learning.{VersionsAreOne};
 ghost use Rattle.sr_inv_table.specs.Loaded.{WordsAreLoaded};
+ghost use Rattle.sr_inv_table.specs.Matched.{NoOtherMatches, PlacedAreSettled};
 ghost use Rattle.sr_inv_table.specs.Standing.{TableHolds};
 ghost use Rattle.sr_machine.specs.Core.{Core};
 
@@ -41,4 +43,21 @@ pub fn recorded_openers_leave()
 /// A law: while no update is in progress, each word of the filter is 0.
 pub fn filter_is_clear()
     ensures { (s : Core) → Invariant s → FilterIsClear s }
+{}
+
+/// A law: the entry of a key, all reports in rings that tell it as learned, and all openers of it in flight that have chosen a version and
+/// may still learn it, have one version.
+pub fn versions_are_one()
+    ensures { (s : Core) → Invariant s → VersionsAreOne s }
+{}
+
+/// A law: a key with a Live place has no report in a ring that tells it as learned, and no opener that may learn it.
+pub fn placed_keys_are_settled()
+    ensures { (s : Core) → Invariant s → PlacedAreSettled s }
+{}
+
+/// A law: no live place of another key matches a key that is registered outside the full-key table, or that a report in a ring tells as
+/// learned, or that an opener in flight may learn.
+pub fn slots_match_no_other()
+    ensures { (s : Core) → Invariant s → NoOtherMatches s }
 {}
