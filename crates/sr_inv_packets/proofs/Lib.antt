@@ -1,2 +1,6 @@
+pub mod Learning
+pub mod Marking
 pub mod Numbers
 mod Parts
+pub mod Passing
+pub mod Placing

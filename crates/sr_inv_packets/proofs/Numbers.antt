@@ -131,7 +131,7 @@ module _ (s : Core) (i : Invariant s) where
 
   -- ---- the word in memory
 
-  vip_loaded : (vip : ℕ) → read_vip s.config.layout (s.words (name.Vip vip)) ≡ vip_at s.controller.vips vip
+  pub vip_loaded : (vip : ℕ) → read_vip s.config.layout (s.words (name.Vip vip)) ≡ vip_at s.controller.vips vip
   vip_loaded vip =
       let l = s.config.layout in
       let w = vip_at s.controller.vips vip in

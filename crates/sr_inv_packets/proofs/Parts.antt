@@ -33,3 +33,7 @@ pub leg_both : (stage : Stage) (F : Flight → Type 0) (P Q : Flight → Leg →
     → OnFlight stage F → OnLeg stage P → OnLeg stage Q
 leg_both (Fly f leg) F P Q turn a b = turn f leg a b
 leg_both stage F P Q turn a b = tt
+
+pub leg_then : (stage : Stage) (P Q : Flight → Leg → Type 0) → ((f : Flight) (leg : Leg) → P f leg → Q f leg) → OnLeg stage P → OnLeg stage Q
+leg_then (Fly f leg) P Q turn h = turn f leg h
+leg_then stage P Q turn h = tt

@@ -1,1 +1,5 @@
+pub mod Filter
+pub mod Learning
 pub mod Numbers
+pub mod Passing
+pub mod Placing
