@@ -1,10 +1,12 @@
 //! What follows from the invariant.
 
 ghost use Rattle.sr_inv_packets.specs.Filter.{KeptMarked, RecordedMarked};
+ghost use Rattle.sr_inv_packets.specs.Hits.{LeaveHits};
 ghost use Rattle.sr_inv_packets.specs.Learning.{OpenersLearn};
 ghost use Rattle.sr_inv_packets.specs.Numbers.{FreeStandNowhere, UsedHoldPools};
 ghost use Rattle.sr_inv_packets.specs.Passing.{PassedKnow};
 ghost use Rattle.sr_inv_packets.specs.Placing.{DrainedMiss};
+ghost use Rattle.sr_inv_packets.specs.Track.{PacketsOnTrack};
 
 /// A law: a version number that is free is named by no word of its virtual address, by no live place, by no registered key, by no report that waits in
 /// a ring, and by no packet in flight.
@@ -45,4 +47,17 @@ pub fn openers_learn_the_next_number()
 /// of its virtual address, the place that was reserved, the entry that was made live; and it has not chosen a number that is to be free.
 pub fn passed_packets_know_the_store()
     ensures { PassedKnow }
+{}
+
+/// A law: a packet in flight whose key is registered with a version, or told with it by a report in a ring, and that is an opener or entered after the
+/// opening, has chosen that version; or it is or will be held, or its ring was full; or the first live place that it is still to look at has that version; or nothing will
+/// match it, and its word and the present filter give that version.
+pub fn packets_are_on_track()
+    ensures { PacketsOnTrack }
+{}
+
+/// A law: a packet of a placed key, other than an opener, that is out has left a hit at the key's place, where it entered after the key's last Placed line,
+/// after the Cleared line of a place that the entry left, and not before the end of the sweep since which the entry was quiet.
+pub fn packets_leave_hits()
+    ensures { LeaveHits }
 {}
