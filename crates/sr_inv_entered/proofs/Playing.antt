@@ -1,4 +1,4 @@
--- In a round each pick keeps the sum of what came and what is left of the shares.
+-- In a round each act keeps the sum of what came and what is left of the shares.
 use Rattle.std.proofs.Common.{◌≡◌, ℕ, zero, suc, ◌+◌, ◌<◌, ◌≤◌, ◌^◌, ◌==◌, ◌&&◌, Bool, true, false, List, [], ◌∷◌, length, slice_get, slice_set, sum_by, if◌then◌else◌, Option, Some, None, sym, refl, ap, ◌∙◌, subst, arith}
 use Rattle.std.proofs.lemmas.Bool.{and_parts}
 use Rattle.std.proofs.lemmas.Bool.Decides.{nat_tests}
@@ -6,7 +6,6 @@ use Rattle.std.proofs.lemmas.List.Sums.{sum_by-append, sum_by-cons}
 use Rattle.std.proofs.lemmas.Option.{slice_get_within}
 use Rattle.std.specs.List.{AllByRecursion}
 use Rattle.sr_base.specs.declared.packet.Packet.{Packet}
-use Rattle.sr_gen.specs.Generator.{next_state}
 use Rattle.sr_inv_entered.proofs.Standing.{IsStill, Stands, after_stands, came_on, entry_stands, still_stands}
 use Rattle.sr_inv_entered.specs.Entered.{MayEnter}
 use Rattle.sr_inv_facts.proofs.Lists.{all_got, all_set, length_set}
@@ -22,7 +21,7 @@ use Rattle.sr_machine.specs.Turning.{most_steps}
 use Rattle.sr_machine.specs.declared.actor.Actor.TheVariants as actor
 use Rattle.sr_machine.specs.declared.event.Event.TheVariants.{Enter, Step}
 use Rattle.sr_machine.specs.declared.pipe_view.PipeView.{PipeView}
-use Rattle.sr_picks.specs.Play.{Play, PlaysTo, controller_picked, has_ended, is_handled, is_over, pick, pick_by, picked, pipe_idle, pipe_picked, pipes_of, played, share_of, stepped_by, turns_ended}
+use Rattle.sr_picks.specs.Play.{ActsTo, Play, act_of, acted, controller_picked, has_ended, is_handled, is_over, pipe_idle, pipe_picked, pipes_of, share_of, stepped_by, turns_ended}
 use Rattle.sr_picks.specs.Turn.{after}
 
 -- In this play so many packets came or are left in a share, and this packet so often.
@@ -96,7 +95,7 @@ module _ (k : Config) (packet : Packet) (all own : ℕ) (few : all < 2 ^ 32) whe
   stepped_holds p i false (Some []) h a b = step_holds p i h
   stepped_holds p i false (Some (y ∷ rest)) h a b = step_holds p i h
 
-  -- ---- a pick
+  -- ---- an act
 
   turn_holds : (p : Play) → Holds k packet all own p → Holds k packet all own (controller_picked p)
   turn_holds p h = record {
@@ -116,16 +115,9 @@ module _ (k : Config) (packet : Packet) (all own : ℕ) (few : all < 2 ^ 32) whe
   act_holds p i true h = turn_holds p h
   act_holds p i false h = stepped_holds p i (pipe_idle (slice_get p.state.pipes i)) (slice_get p.shares i) h refl refl
 
-  pick_holds : (p : Play) (x : ℕ) (i : Option ℕ) → Holds k packet all own p → Holds k packet all own (pick_by p x i)
-  pick_holds p x None h = h
-  pick_holds p x (Some i) h =
-      let g = act_holds p i (i == pipes_of p) h in
-      record { came = g.came; often = g.often; stands = g.stands; shares = g.shares; may = g.may; sum = g.sum; sum_own = g.sum_own }
-
-  played_holds : (n : ℕ) (p : Play) → Holds k packet all own p → Holds k packet all own (played n p)
-  played_holds zero p h = h
-  played_holds (suc n) p h =
-      played_holds n (pick p) (pick_holds p (next_state p.generator) (picked p (next_state p.generator)) h)
+  acted_holds : (actors : List ℕ) (p : Play) → Holds k packet all own p → Holds k packet all own (acted actors p)
+  acted_holds [] p h = h
+  acted_holds (i ∷ rest) p h = acted_holds rest (act_of p i) (act_holds p i (i == pipes_of p) h)
 
   -- ---- the end of a round
 
@@ -157,11 +149,11 @@ module _ (k : Config) (packet : Packet) (all own : ℕ) (few : all < 2 ^ 32) whe
       used e = cc
 
   -- so at its end all came
-  pub plays_stand : (p q : Play) → Holds k packet all own p → PlaysTo p q → Stands k packet all own q.state
-  plays_stand p q h plays =
-      let g : Holds k packet all own q = subst (Holds k packet all own) plays.1 (played_holds plays.0 p h) in
+  pub acts_stand : (p q : Play) → Holds k packet all own p → ActsTo p q → Stands k packet all own q.state
+  acts_stand p q h acts =
+      let g : Holds k packet all own q = subst (Holds k packet all own) acts.1 (acted_holds acts.0 p h) in
       let count : length q.shares ≡ pipes_of q = g.shares ∙ sym (ap (λ c. c.layout.shape.pipes) g.stands.config) in
-      let used = over_handled q count plays.2 in
+      let used = over_handled q count acts.2 in
       let came : g.came ≡ all = omega (arith, g.sum, none_left length refl q.shares used) in
       let often : g.often ≡ own = omega (arith, g.sum_own, none_left (times packet) refl q.shares used) in
       subst (λ n. Stands k packet n own q.state) came (subst (λ m. Stands k packet g.came m q.state) often g.stands)

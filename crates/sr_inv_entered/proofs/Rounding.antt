@@ -8,7 +8,7 @@ use Rattle.std.specs.List.{AllByRecursion, range_with_len}
 use Rattle.sr_base.specs.declared.packet.Packet.{Packet}
 use Rattle.sr_hash.specs.Keyed.{hash_of}
 use Rattle.sr_hash.specs.Uses.{pipe_number}
-use Rattle.sr_inv_entered.proofs.Playing.{Holds, plays_stand}
+use Rattle.sr_inv_entered.proofs.Playing.{Holds, acts_stand}
 use Rattle.sr_inv_entered.proofs.Sharing.{shares_count}
 use Rattle.sr_inv_entered.proofs.Standing.{Stands, after_stands}
 use Rattle.sr_inv_entered.specs.Entered.{MayEnter, given}
@@ -18,7 +18,7 @@ use Rattle.sr_law.specs.Final.{same_packet}
 use Rattle.sr_machine.specs.Config.{Config}
 use Rattle.sr_machine.specs.Core.{Core}
 use Rattle.sr_machine.specs.declared.event.Event.TheVariants.{Due}
-use Rattle.sr_picks.specs.Run.{Rounds, packets_in, round_begun}
+use Rattle.sr_picks.specs.Run.{RoundsByActs, packets_in, round_begun}
 use Rattle.sr_rounds.specs.Rounds.{AreRoundsOf, Follow}
 use Rattle.sr_rounds.specs.declared.round.Round.{Round}
 use Rattle.sr_rounds.specs.declared.timed.Timed.{Timed}
@@ -59,10 +59,10 @@ shares_may k of ys [] a = tt
 shares_may k of ys (i ∷ rest) a = (all_filtered (MayEnter k) (λ y. of y == i) ys a, shares_may k of ys rest a)
 
 module _ (k : Config) (packet : Packet) (some : 1 ≤ k.layout.shape.pipes) where
-  begun_holds : (packets : List Timed) (r : Round) (x n m : ℕ) (s : Core) → Stands k packet n m s
+  begun_holds : (packets : List Timed) (r : Round) (n m : ℕ) (s : Core) → Stands k packet n m s
       → AllByRecursion (MayEnter k) (packets_in packets r)
-      → Holds k packet (n + length (packets_in packets r)) (m + times packet (packets_in packets r)) (round_begun packets r x s)
-  begun_holds packets r x n m s h may =
+      → Holds k packet (n + length (packets_in packets r)) (m + times packet (packets_in packets r)) (round_begun packets r 0 s)
+  begun_holds packets r n m s h may =
       let ys = packets_in packets r in
       let pipes = s.config.layout.shape.pipes in
       let same : pipes ≡ k.layout.shape.pipes = ap (λ c. c.layout.shape.pipes) h.config in
@@ -84,16 +84,16 @@ module _ (k : Config) (packet : Packet) (some : 1 ≤ k.layout.shape.pipes) wher
 
   -- ---- all rounds
 
-  pub rounds_stand : (packets : List Timed) (rounds : List Round) (x n m : ℕ) (s : Core) (y : ℕ) (t : Core) → Stands k packet n m s
+  pub rounds_stand : (packets : List Timed) (rounds : List Round) (n m : ℕ) (s t : Core) → Stands k packet n m s
       → AllByRecursion (MayEnter k) (packets_of_rounds packets rounds)
       → n + length (packets_of_rounds packets rounds) < 2 ^ 32
-      → Rounds packets rounds x s y t
+      → RoundsByActs packets rounds s t
       → Stands k packet (n + length (packets_of_rounds packets rounds)) (m + times packet (packets_of_rounds packets rounds)) t
-  rounds_stand packets [] x n m s y t h may few e =
+  rounds_stand packets [] n m s t h may few e =
       let same : n ≡ n + 0 = omega arith in
       let own : m ≡ m + 0 = omega arith in
-      subst (λ a. Stands k packet a (m + 0) t) same (subst (λ b. Stands k packet n b t) own (subst (Stands k packet n m) (sym e.1) h))
-  rounds_stand packets (r ∷ rest) x n m s y t h may few (q, plays, more) =
+      subst (λ a. Stands k packet a (m + 0) t) same (subst (λ b. Stands k packet n b t) own (subst (Stands k packet n m) (sym e) h))
+  rounds_stand packets (r ∷ rest) n m s t h may few (q, acts, more) =
       let ys = packets_in packets r in
       let zs = packets_of_rounds packets rest in
       let long : length (ys ++ zs) ≡ length ys + length zs = length-append ys zs in
@@ -101,10 +101,10 @@ module _ (k : Config) (packet : Packet) (some : 1 ≤ k.layout.shape.pipes) wher
       sum_by-append (λ z. if same_packet packet z then 1 else 0) ys zs in
       let came = n + length ys in
       let own_came = m + times packet ys in
-      let begun = begun_holds packets r x n m s h (all_front (MayEnter k) ys zs may) in
-      let here = plays_stand k packet came own_came (omega (arith, few, long)) (round_begun packets r x s) q begun plays in
+      let begun = begun_holds packets r n m s h (all_front (MayEnter k) ys zs may) in
+      let here = acts_stand k packet came own_came (omega (arith, few, long)) (round_begun packets r 0 s) q begun acts in
       let later = all_back (MayEnter k) ys zs may in
-      let there = rounds_stand packets rest q.generator came own_came q.state y t here later (omega (arith, few, long)) more in
+      let there = rounds_stand packets rest came own_came q.state t here later (omega (arith, few, long)) more in
       let all : n + length ys + length zs ≡ n + length (ys ++ zs) = omega (arith, long) in
       let own : m + times packet ys + times packet zs ≡ m + times packet (ys ++ zs) = omega (arith, often) in
       subst (λ a. Stands k packet a (m + times packet (ys ++ zs)) t) all (subst (λ b. Stands k packet (n + length ys + length zs) b t) own there)

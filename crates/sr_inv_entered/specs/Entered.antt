@@ -1,4 +1,4 @@
--- Which packets enter in a run by picks.
+-- Which packets enter in a run round by round, and so in one by picks.
 use Rattle.std.specs.List.{AllByRecursion}
 use Rattle.std.specs.Prelude.{◌≡◌, ℕ, ◌<◌, ◌^◌, true, List, length, map}
 use Rattle.sr_base.specs.Layout.{IsLayout}
@@ -13,7 +13,7 @@ use Rattle.sr_machine.specs.Config.{Config}
 use Rattle.sr_machine.specs.Core.{Core, lines_of, printed}
 use Rattle.sr_machine.specs.Pipe.{has_vip}
 use Rattle.sr_machine.specs.declared.settled.Settled.{Settled}
-use Rattle.sr_picks.specs.Run.{RunsByPicks}
+use Rattle.sr_picks.specs.Run.{RunsByActs, RunsByPicks}
 use Rattle.sr_rounds.specs.declared.timed.Timed.{Timed}
 
 -- the packets that a run is given
@@ -28,6 +28,13 @@ MayEnter k packet = has_vip k.layout packet ≡ true
 pub record AreTakable (k : Config) (packets : List Timed) : Type 0 where
   pub each : AllByRecursion (MayEnter k) (given packets)
   pub few : length packets < 2 ^ 32
+
+-- Whoever acts next, the lines of a run round by round are lawful for what the machine was made for and these packets.
+abbrev pub ActsAreLawful : Type 0
+ActsAreLawful =
+    (k : Config) (packets : List Timed) (r : Settled) (t : Core) → IsFitted k → ArePackets packets → AreTakable k packets
+    → RunsByActs k packets r t
+    → IsLawful (setup_with k (given packets)) (lines_of t)
 
 -- events reach the state that a run by picks ends in
 abbrev pub PicksAreReached : Type 0

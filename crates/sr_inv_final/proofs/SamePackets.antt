@@ -56,7 +56,7 @@ module _ (packet : Packet) where
   none_came k = fresh_came 0 k.layout.shape.pipes
 
   -- where no packet is in hand, what came on the pipes is what their lines tell of
-  idle_came : (pipes : List PipeView) → EachPipe (λ p v. is_idle v.stage ≡ true) pipes
+  pub idle_came : (pipes : List PipeView) → EachPipe (λ p v. is_idle v.stage ≡ true) pipes
       → sum_by (told_times packet) (pipe_lines pipes) ≡ sum_by (came packet) pipes
   idle_came [] h = refl
   idle_came (v ∷ rest) h =

@@ -7,6 +7,7 @@ use Rattle.sr_base.specs.Key.{KeyView}
 use Rattle.sr_base.specs.declared.vip_word.Phase.{Phase}
 use Rattle.sr_base.specs.declared.vip_word.Phase.TheVariants.{Steady, Recording, Holding, Transit}
 use Rattle.sr_base.specs.declared.vip_word.VipWord.{VipWord}
+use Rattle.sr_inv_rest.specs.Laws.{NoLook, OnLook}
 use Rattle.sr_machine.specs.Begins.{Begins, looks}
 use Rattle.sr_machine.specs.Config.{Config}
 use Rattle.sr_machine.specs.Draws.{cleared_job, phase_job}
@@ -33,14 +34,6 @@ use Rattle.sr_machine.specs.declared.wait.Wait.TheVariants as wait
 use Rattle.sr_machine.specs.declared.why.Why.{Why}
 use Rattle.sr_machine.specs.declared.why.Why.TheVariants as why
 use Rattle.sr_shadow.specs.declared.entry.Entry.{Entry}
-
--- if the job is a look, this holds of the pipe that it has come to
-abbrev pub OnLook : Job → (ℕ → Type 0) → Type 0
-OnLook (job.Look pipe) P = P pipe
-OnLook j P = Unit {0}
-
-abbrev pub NoLook : Job → Type 0
-NoLook j = OnLook j (λ pipe. ⊥)
 
 abbrev pub IsSet : Job → Type 0
 IsSet job.Free = ⊥

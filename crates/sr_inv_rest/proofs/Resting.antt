@@ -1,13 +1,12 @@
--- A run by picks ends at rest: no look is in progress where a turn begins, so the last turn has looked at every ring.
+-- A run round by round ends at rest: no look is in progress where a turn begins, so the last turn has looked at every ring.
 use Rattle.std.proofs.Common.{◌≡◌, ℕ, zero, suc, ◌==◌, Bool, true, false, List, [], ◌∷◌, slice_get, Option, Some, None, option_and_then, option_map, unwrap_or, refl, sym, ap, subst, if◌then◌else◌}
 use Rattle.std.proofs.lemmas.Option.{same_Some}
 use Rattle.sr_base.specs.declared.packet.Packet.{Packet}
-use Rattle.sr_gen.specs.Generator.{next_state}
-use Rattle.sr_inv_rest.proofs.Looks.{NoLook, Stops}
+use Rattle.sr_inv_rest.proofs.Looks.{Stops}
 use Rattle.sr_inv_rest.proofs.Turns.{EndsSo, IsEmptied, turn_so}
-use Rattle.sr_inv_rest.specs.Laws.{PicksEndAtRest}
+use Rattle.sr_inv_rest.specs.Laws.{ActsEndAtRest, AtLeisure, PicksEndAtRest, SettledIsAtRest}
 use Rattle.sr_inv_final.proofs.Resting.{rests}
-use Rattle.sr_inv_runs.proofs.Picked.{picks_idle, picks_keep}
+use Rattle.sr_inv_runs.proofs.Picked.{acts_idle, acts_keep}
 use Rattle.sr_machine.specs.Config.{Config}
 use Rattle.sr_machine.specs.Core.{Core, enters, opening, step_event, stepped, told}
 use Rattle.sr_machine.specs.Opening.{opening_controller}
@@ -23,16 +22,13 @@ use Rattle.sr_machine.specs.declared.settled.Settled.{Settled}
 use Rattle.sr_machine.specs.declared.turn.Turn.{Turn}
 use Rattle.sr_machine.specs.declared.turn.Turn.TheVariants as turn
 use Rattle.sr_machine.specs.declared.view.View.TheVariants.{OfPipe}
+use Rattle.sr_picks.proofs.Acts.{run_acts}
 use Rattle.sr_picks.proofs.Turns.{turns_as}
-use Rattle.sr_picks.specs.Play.{Play, controller_picked, pick, pick_by, picked, pipe_idle, pipe_picked, pipes_of, played, share_of, stepped_by}
-use Rattle.sr_picks.specs.Run.{Rounds, round_begun}
+use Rattle.sr_picks.specs.Play.{Play, act_of, acted, controller_picked, pipe_idle, pipe_picked, pipes_of, share_of, stepped_by}
+use Rattle.sr_picks.specs.Run.{RoundsByActs, round_begun}
 use Rattle.sr_picks.specs.Turn.{after, turn_of}
 use Rattle.sr_rounds.specs.declared.round.Round.{Round}
 use Rattle.sr_rounds.specs.declared.timed.Timed.{Timed}
-
--- no look is in progress
-abbrev AtLeisure : Core → Type 0
-AtLeisure s = NoLook s.controller.job
 
 -- ---- what others do leaves the job as it is
 
@@ -88,26 +84,24 @@ stepped_leaves p i true (packet ∷ rest) h =
 stepped_leaves p i false [] h = after_leaves p.state (Step (actor.Pipe i)) tt h
 stepped_leaves p i false (packet ∷ rest) h = after_leaves p.state (Step (actor.Pipe i)) tt h
 
-picked_leaves : (p : Play) (x : ℕ) (i : Option ℕ) → AtLeisure p.state → AtLeisure (pick_by p x i).state
-picked_leaves p x None h = h
-picked_leaves p x (Some i) h = at (i == pipes_of p)
+act_leaves : (p : Play) (i : ℕ) → AtLeisure p.state → AtLeisure (act_of p i).state
+act_leaves p i h = at (i == pipes_of p)
   where
     at : (b : Bool) → AtLeisure (if b then controller_picked p else pipe_picked p i).state
     at true = (turn_so p.state h).0
     at false = stepped_leaves p i (pipe_idle (slice_get p.state.pipes i)) (share_of (slice_get p.shares i)) h
 
-played_leaves : (n : ℕ) (p : Play) → AtLeisure p.state → AtLeisure (played n p).state
-played_leaves zero p h = h
-played_leaves (suc n) p h = played_leaves n (pick p) (picked_leaves p (next_state p.generator) (picked p (next_state p.generator)) h)
+acted_leaves : (actors : List ℕ) (p : Play) → AtLeisure p.state → AtLeisure (acted actors p).state
+acted_leaves [] p h = h
+acted_leaves (i ∷ rest) p h = acted_leaves rest (act_of p i) (act_leaves p i h)
 
-rounds_leave : (packets : List Timed) (rounds : List Round) (x : ℕ) (s : Core) (y : ℕ) (t : Core) → AtLeisure s → Rounds packets rounds x s y t
-    → AtLeisure t
-rounds_leave packets [] x s y t h e = subst AtLeisure (sym e.1) h
-rounds_leave packets (r ∷ rest) x s y t h (q, to, more) =
+rounds_leave : (packets : List Timed) (rounds : List Round) (s t : Core) → AtLeisure s → RoundsByActs packets rounds s t → AtLeisure t
+rounds_leave packets [] s t h e = subst AtLeisure (sym e) h
+rounds_leave packets (r ∷ rest) s t h (q, to, more) =
     let there : AtLeisure q.state =
     subst (λ (p : Play). AtLeisure p.state) to.1
-    (played_leaves to.0 (round_begun packets r x s) (after_leaves s (Due r.start_ms) tt h)) in
-    rounds_leave packets rest q.generator q.state y t there more
+    (acted_leaves to.0 (round_begun packets r 0 s) (after_leaves s (Due r.start_ms) tt h)) in
+    rounds_leave packets rest q.state t there more
 
 -- ---- the turns after the last round
 
@@ -158,8 +152,16 @@ opening_leisure : (k : Config) → AtLeisure (opening k)
 unfolding opening_controller
 opening_leisure k = tt
 
+-- Where turns end, of which the first began with no look in progress, and no packet is in hand, nothing is under way.
+pub settled_rests : SettledIsAtRest
+settled_rests s t r free h i idle =
+    let e : IsEmptied t = settled_empties h.0 s t r free h.1 in
+    rests t i idle e.0 e.1
+
+pub acts_rest : ActsEndAtRest
+acts_rest k packets r t f a h =
+    settled_rests h.state t r (rounds_leave packets _ (opening k) h.state (opening_leisure k) h.rounds) h.settles
+    (acts_keep k packets r t f a h).0 (acts_idle k packets r t f a h)
+
 pub picks_rest : PicksEndAtRest
-picks_rest k seed packets r t f a h =
-    let free : AtLeisure h.state = rounds_leave packets _ seed (opening k) h.generator h.state (opening_leisure k) h.rounds in
-    let e : IsEmptied t = settled_empties h.settles.0 h.state t r free h.settles.1 in
-    rests t (picks_keep k seed packets r t f a h).0 (picks_idle k seed packets r t f a h) e.0 e.1
+picks_rest k seed packets r t f a h = acts_rest k packets r t f a (run_acts k seed packets r t h)

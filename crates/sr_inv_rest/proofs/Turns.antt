@@ -7,7 +7,8 @@ use Rattle.std.proofs.lemmas.Bool.Decides.{nat_tests}
 use Rattle.std.proofs.lemmas.Option.{same_Some}
 use Rattle.sr_inv_facts.proofs.Takes.{take_none}
 use Rattle.sr_inv_final.specs.Rest.{AreEmpty}
-use Rattle.sr_inv_rest.proofs.Looks.{FromLook, IsSet, NoLook, OnLook, RestsAt, Stops, ends_looks, first_look, from_look, op_set, set_op, stays_set, stops}
+use Rattle.sr_inv_rest.specs.Laws.{NoLook, OnLook}
+use Rattle.sr_inv_rest.proofs.Looks.{FromLook, IsSet, RestsAt, Stops, ends_looks, first_look, from_look, op_set, set_op, stays_set, stops}
 use Rattle.sr_machine.proofs.Following.{first_begins, goes}
 use Rattle.sr_machine.specs.Config.{Config}
 use Rattle.sr_machine.specs.Controller.{controller_op}

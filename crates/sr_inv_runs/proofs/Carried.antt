@@ -1,6 +1,5 @@
--- What every event keeps, a run by picks keeps: where the packets that enter are ones.
+-- What every event keeps, a run round by round keeps, whoever acts next: where the packets that enter are ones.
 use Rattle.sr_base.specs.declared.packet.Packet.{Packet}
-use Rattle.sr_gen.specs.Generator.{next_state}
 use Rattle.sr_hash.specs.Uses.{pipe_number}
 use Rattle.sr_inv_facts.proofs.Lists.{all_filtered, all_got, all_images, all_set}
 use Rattle.sr_inv_facts.specs.Fitted.{IsPacket}
@@ -19,8 +18,8 @@ use Rattle.sr_machine.specs.declared.settled.Settled.{Settled}
 use Rattle.sr_machine.specs.declared.turn.Turn.{Turn}
 use Rattle.sr_machine.specs.declared.view.View.TheVariants.{OfController}
 use Rattle.sr_picks.proofs.Turns.{is_turn, turns_as}
-use Rattle.sr_picks.specs.Play.{Play, PlaysTo, controller_picked, pick, pick_by, picked, pipe_idle, pipe_picked, pipes_of, played, share_of, stepped_by}
-use Rattle.sr_picks.specs.Run.{Rounds, RunsByPicks, packets_in, round_begun}
+use Rattle.sr_picks.specs.Play.{ActsTo, Play, act_of, acted, controller_picked, pipe_idle, pipe_picked, pipes_of, share_of, stepped_by}
+use Rattle.sr_picks.specs.Run.{RoundsByActs, RunsByActs, packets_in, round_begun}
 use Rattle.sr_picks.specs.Turn.{after, ended_or, turn_in, turn_on}
 use Rattle.sr_rounds.specs.declared.round.Round.{Round}
 use Rattle.sr_rounds.specs.declared.timed.Timed.{Timed}
@@ -125,7 +124,7 @@ module _ (P : Core → Type 0) (makes : (s t : Core) (e : Event) → P s → Bri
   pub after_keeps : (s : Core) (e : Event) → Brings IsPacket e → P s → P (after e s)
   after_keeps s e a r = after_by s e (step_event e s) refl a r
 
-  -- ---- a pick
+  -- ---- an act
 
   -- what holds of a play: its state keeps it, and its shares are of packets
   abbrev Carries : Play → Type 0
@@ -145,19 +144,14 @@ module _ (P : Core → Type 0) (makes : (s t : Core) (e : Event) → P s → Bri
       stepped_keeps p i (pipe_idle (slice_get p.state.pipes i)) (share_of (slice_get p.shares i))
       (share_are (slice_get p.shares i) (λ share e. all_got (AllByRecursion IsPacket) p.shares i share h.1 e)) h
 
-  picked_keeps : (p : Play) (x : ℕ) (i : Option ℕ) → Carries p → Carries (pick_by p x i)
-  picked_keeps p x None h = h
-  picked_keeps p x (Some i) h = act_by p i (i == pipes_of p) h
-
-  played_keeps : (n : ℕ) (p : Play) → Carries p → Carries (played n p)
-  played_keeps zero p h = h
-  played_keeps (suc n) p h =
-      played_keeps n (pick p) (picked_keeps p (next_state p.generator) (picked p (next_state p.generator)) h)
+  acted_keeps : (actors : List ℕ) (p : Play) → Carries p → Carries (acted actors p)
+  acted_keeps [] p h = h
+  acted_keeps (i ∷ rest) p h = acted_keeps rest (act_of p i) (act_by p i (i == pipes_of p) h)
 
   -- ---- a round
 
-  plays_keep : (p q : Play) → Carries p → PlaysTo p q → Carries q
-  plays_keep p q h plays = subst Carries plays.1 (played_keeps plays.0 p h)
+  acts_keep : (p q : Play) → Carries p → ActsTo p q → Carries q
+  acts_keep p q h acts = subst Carries acts.1 (acted_keeps acts.0 p h)
 
   packets_are : (packets : List Timed) (r : Round) → ArePackets packets → AllByRecursion IsPacket (packets_in packets r)
   packets_are packets r a =
@@ -179,23 +173,26 @@ module _ (P : Core → Type 0) (makes : (s t : Core) (e : Event) → P s → Bri
   shares_are (i ∷ rest) of packets a = (all_filtered IsPacket (λ p. of p == i) packets a, shares_are rest of packets a)
 
   -- a round keeps it
-  pub round_keeps : (packets : List Timed) → ArePackets packets → (r : Round) (x : ℕ) (s : Core) (q : Play) → P s
-      → PlaysTo (round_begun packets r x s) q
+  pub round_keeps : (packets : List Timed) → ArePackets packets → (r : Round) (s : Core) (q : Play) → P s
+      → ActsTo (round_begun packets r 0 s) q
       → P q.state
-  round_keeps packets a r x s q h plays =
-      (plays_keep (round_begun packets r x s) q (after_keeps s (Due r.start_ms) tt h, shares_are (range_with_len 0 s.config.layout.shape.pipes) (λ p. pipe_number p.key s.config.layout.shape.pipes) (packets_in packets r) (packets_are packets r a)) plays).0
+  round_keeps packets a r s q h acts =
+      (acts_keep (round_begun packets r 0 s) q (after_keeps s (Due r.start_ms) tt h, shares_are (range_with_len 0 s.config.layout.shape.pipes) (λ p. pipe_number p.key s.config.layout.shape.pipes) (packets_in packets r) (packets_are packets r a)) acts).0
 
-  pub rounds_keep : (packets : List Timed) → ArePackets packets → (rounds : List Round) (x : ℕ) (s : Core) (y : ℕ) (t : Core) → P s
-      → Rounds packets rounds x s y t
+  rounds_keep : (packets : List Timed) → ArePackets packets → (rounds : List Round) (s t : Core) → P s → RoundsByActs packets rounds s t
       → P t
-  rounds_keep packets a [] x s y t r e = subst P (sym e.1) r
-  rounds_keep packets a (round ∷ rest) x s y t r (q, plays, more) =
-      rounds_keep packets a rest q.generator q.state y t (round_keeps packets a round x s q r plays) more
+  rounds_keep packets a [] s t r e = subst P (sym e) r
+  rounds_keep packets a (round ∷ rest) s t r (q, acts, more) =
+      rounds_keep packets a rest q.state t (round_keeps packets a round s q r acts) more
 
-  -- ---- the whole run
+  -- ---- the whole run: its last round, and the turns after it
 
-  pub run_keeps : (k : Config) (seed : ℕ) (packets : List Timed) (r : Settled) (t : Core) → ArePackets packets → P (opening k)
-      → RunsByPicks k seed packets r t
+  pub run_rounds_keep : (k : Config) (packets : List Timed) (r : Settled) (t : Core) → ArePackets packets → P (opening k)
+      → (h : RunsByActs k packets r t) → P h.state
+  run_rounds_keep k packets r t a first h = rounds_keep packets a _ (opening k) h.state first h.rounds
+
+  pub run_keeps : (k : Config) (packets : List Timed) (r : Settled) (t : Core) → ArePackets packets → P (opening k)
+      → RunsByActs k packets r t
       → P t
-  run_keeps k seed packets r t a first h =
-      settled_keeps P (Brings IsPacket) makes tt tt h.settles.0 h.state t r (rounds_keep packets a _ seed (opening k) h.generator h.state first h.rounds) h.settles.1
+  run_keeps k packets r t a first h =
+      settled_keeps P (Brings IsPacket) makes tt tt h.settles.0 h.state t r (run_rounds_keep k packets r t a first h) h.settles.1

@@ -1,4 +1,4 @@
--- A run by picks leaves every pipe idle.
+-- A run round by round leaves every pipe idle.
 use Rattle.std.proofs.Common.{◌≡◌, ℕ, zero, suc, ◌+◌, ◌<◌, ◌==◌, ◌&&◌, Bool, true, false, List, [], ◌∷◌, length, slice_get, Some, None, Option, option_map, if◌then◌else◌, sym, refl, ap, ◌∙◌, subst, arith}
 use Rattle.std.proofs.lemmas.Bool.Decides.{nat_tests}
 use Rattle.std.proofs.lemmas.Option.{same_Some, slice_get_within}
@@ -21,8 +21,8 @@ use Rattle.sr_machine.specs.declared.op.Op.{Op}
 use Rattle.sr_machine.specs.declared.pipe_view.PipeView.{PipeView}
 use Rattle.sr_machine.specs.declared.settled.Settled.{Settled}
 use Rattle.sr_machine.specs.declared.view.View.TheVariants.{OfController}
-use Rattle.sr_picks.specs.Play.{Play, PlaysTo, has_ended, is_handled, is_over, pipe_idle, pipes_of, share_of, turns_ended}
-use Rattle.sr_picks.specs.Run.{Rounds, round_begun}
+use Rattle.sr_picks.specs.Play.{ActsTo, Play, has_ended, is_handled, is_over, pipe_idle, pipes_of, share_of, turns_ended}
+use Rattle.sr_picks.specs.Run.{RoundsByActs, round_begun}
 use Rattle.sr_rounds.specs.declared.round.Round.{Round}
 use Rattle.sr_rounds.specs.declared.timed.Timed.{Timed}
 
@@ -56,15 +56,15 @@ over_idle p count over = λ i v there.
         ap pipe_idle (sym there) ∙ (parts (pipe_idle (slice_get p.state.pipes i)) (is_handled (share_of (slice_get p.shares i))) h).0
 
 module _ (P : Core → Type 0) (count : (s : Core) → P s → length s.pipes ≡ s.config.layout.shape.pipes) where
-  pub rounds_idle : (packets : List Timed) (rounds : List Round) (x : ℕ) (s : Core) (y : ℕ) (t : Core)
-      → ((r : Round) (x : ℕ) (s : Core) (q : Play) → P s → PlaysTo (round_begun packets r x s) q → P q.state) → P s
+  pub rounds_idle : (packets : List Timed) (rounds : List Round) (s t : Core)
+      → ((r : Round) (s : Core) (q : Play) → P s → ActsTo (round_begun packets r 0 s) q → P q.state) → P s
       → AreIdle s
-      → Rounds packets rounds x s y t
+      → RoundsByActs packets rounds s t
       → AreIdle t
-  rounds_idle packets [] x s y t plays p idle e = subst AreIdle (sym e.1) idle
-  rounds_idle packets (r ∷ rest) x s y t plays p idle (q, to, more) =
-      let there = plays r x s q p to in
-      rounds_idle packets rest q.generator q.state y t plays there (over_idle q (count q.state there) to.2) more
+  rounds_idle packets [] s t acts p idle e = subst AreIdle (sym e) idle
+  rounds_idle packets (r ∷ rest) s t acts p idle (q, to, more) =
+      let there = acts r s q p to in
+      rounds_idle packets rest q.state t acts there (over_idle q (count q.state there) to.2) more
 
 -- ---- the turns after the last round
 
@@ -73,23 +73,28 @@ IsControllers (Step actor.Controller) = Unit {0}
 IsControllers Refuse = Unit {0}
 IsControllers e = ⊥
 
-controllers_idle : (s t : Core) (e : Event) → AreIdle s → IsControllers e → step_event e s ≡ Some t → AreIdle t
-controllers_idle s t (Step actor.Controller) idle own q = at (controller_op s.config s.controller) q
+-- what the controller does leaves the pipes as they are
+controllers_leave : (s t : Core) (e : Event) → IsControllers e → step_event e s ≡ Some t → t.pipes ≡ s.pipes
+controllers_leave s t (Step actor.Controller) own q = at (controller_op s.config s.controller) q
   where
-    at : (o : Option Op) → option_map (made s actor.Controller (OfController s.controller)) o ≡ Some t → AreIdle t
+    at : (o : Option Op) → option_map (made s actor.Controller (OfController s.controller)) o ≡ Some t → t.pipes ≡ s.pipes
     at None g = cc
-    at (Some o) g = subst AreIdle (same_Some _ t g) idle
-controllers_idle s t Refuse idle own q = at (told_to_refuse s.controller) q
+    at (Some o) g = ap (λ (u : Core). u.pipes) (sym (same_Some _ t g))
+controllers_leave s t Refuse own q = at (told_to_refuse s.controller) q
   where
-    at : (o : Option ControllerView) → option_map (λ d. record s { controller = d }) o ≡ Some t → AreIdle t
+    at : (o : Option ControllerView) → option_map (λ d. record s { controller = d }) o ≡ Some t → t.pipes ≡ s.pipes
     at None g = cc
-    at (Some d) g = subst AreIdle (same_Some (record s { controller = d }) t g) idle
-controllers_idle s t (Step (actor.Pipe p)) idle own q = absurd own
-controllers_idle s t (Enter p packet) idle own q = absurd own
-controllers_idle s t (Due ms) idle own q = absurd own
+    at (Some d) g = ap (λ (u : Core). u.pipes) (sym (same_Some (record s { controller = d }) t g))
+controllers_leave s t (Step (actor.Pipe p)) own q = absurd own
+controllers_leave s t (Enter p packet) own q = absurd own
+controllers_leave s t (Due ms) own q = absurd own
+
+pub settled_leaves : (n : ℕ) (s t : Core) (r : Settled) → settled_in n s ≡ Some (r, t) → t.pipes ≡ s.pipes
+settled_leaves n s t r e =
+    settled_keeps (λ u. u.pipes ≡ s.pipes) IsControllers (λ u v e h own q. controllers_leave u v e own q ∙ h) tt tt n s t r refl e
 
 pub settled_idle : (n : ℕ) (s t : Core) (r : Settled) → AreIdle s → settled_in n s ≡ Some (r, t) → AreIdle t
-settled_idle n s t r idle e = settled_keeps AreIdle IsControllers controllers_idle tt tt n s t r idle e
+settled_idle n s t r idle e = subst (EachPipe (λ p v. is_idle v.stage ≡ true)) (sym (settled_leaves n s t r e)) idle
 
 -- ---- the opening
 

@@ -60,14 +60,20 @@ is_not : (b : Bool) → not b ≡ true → b ≡ false
 is_not true e = absurd (cc e)
 is_not false e = refl
 
+-- who is found from an actor on goes on, and where nobody is found the round is over
+pub found_goes_on : (p : Play) (first i : ℕ) → find (λ j. not (has_ended p j)) (order_from (pipes_of p) first) ≡ Some i → has_ended p i ≡ false
+found_goes_on p first i e = is_not (has_ended p i) (found_passes (λ j. not (has_ended p j)) (order_from (pipes_of p) first) i e)
+
+pub none_found : (p : Play) (first : ℕ) → first ≤ pipes_of p → find (λ j. not (has_ended p j)) (order_from (pipes_of p) first) ≡ None
+    → is_over p ≡ true
+none_found p first h e =
+    all_ordered (has_ended p) (pipes_of p) first h (none_fails (has_ended p) (order_from (pipes_of p) first) e)
+
 pub picked_goes_on : (p : Play) (x i : ℕ) → picked p x ≡ Some i → has_ended p i ≡ false
-picked_goes_on p x i e =
-    is_not (has_ended p i)
-    (found_passes (λ j. not (has_ended p j)) (order_from (pipes_of p) (drawn x % (pipes_of p + 1))) i e)
+picked_goes_on p x i e = found_goes_on p (drawn x % (pipes_of p + 1)) i e
 
 pub none_picked : (p : Play) (x : ℕ) → picked p x ≡ None → is_over p ≡ true
 none_picked p x e =
     let some : 0 < pipes_of p + 1 = omega arith in
     let below : drawn x % (pipes_of p + 1) ≤ pipes_of p = omega (arith, mod-lt (drawn x) some) in
-    all_ordered (has_ended p) (pipes_of p) (drawn x % (pipes_of p + 1)) below
-    (none_fails (has_ended p) (order_from (pipes_of p) (drawn x % (pipes_of p + 1))) e)
+    none_found p (drawn x % (pipes_of p + 1)) below e

@@ -1,7 +1,6 @@
--- A run by picks is a run of the machine.
+-- A run by picks is a run of the machine, and so is one by acts, whoever is next.
 use Rattle.std.proofs.Common.{◌≡◌, ℕ, zero, suc, Bool, true, false, List, [], ◌∷◌, Option, None, Some, refl, sym, ◌∙◌, ap, subst, option_and_then, option_map, unwrap_or, slice_get, ◌==◌, if◌then◌else◌}
 use Rattle.sr_base.specs.declared.packet.Packet.{Packet}
-use Rattle.sr_gen.specs.Generator.{next_state}
 use Rattle.sr_machine.proofs.Kept.{reaches_more}
 use Rattle.sr_machine.specs.Config.{Config}
 use Rattle.sr_machine.specs.Controller.{controller_op}
@@ -15,9 +14,10 @@ use Rattle.sr_machine.specs.declared.op.Op.{Op}
 use Rattle.sr_machine.specs.declared.settled.Settled.{Settled}
 use Rattle.sr_machine.specs.declared.turn.Turn.{Turn}
 use Rattle.sr_machine.specs.declared.view.View.TheVariants.{OfController}
-use Rattle.sr_picks.specs.Play.{Play, PlaysTo, controller_picked, pick, pick_by, picked, pipe_idle, pipe_picked, pipes_of, played, share_of, stepped_by}
-use Rattle.sr_picks.specs.Run.{Rounds, RunsByPicks, round_begun}
+use Rattle.sr_picks.specs.Play.{ActsTo, Play, PlaysTo, act_of, acted, controller_picked, pipe_idle, pipe_picked, pipes_of, share_of, stepped_by}
+use Rattle.sr_picks.specs.Run.{RoundsByActs, RunsByActs, RunsByPicks, round_begun}
 use Rattle.sr_picks.specs.Turn.{after, ended_or, turn_in, turn_on}
+use Rattle.sr_picks.proofs.Acts.{bare, plays_act, run_acts}
 use Rattle.sr_picks.proofs.Turns.{is_turn, turns_as}
 use Rattle.sr_rounds.specs.declared.round.Round.{Round}
 use Rattle.sr_rounds.specs.declared.timed.Timed.{Timed}
@@ -81,25 +81,23 @@ module _ (k : Config) where
   act_by p i true r = turn_reached (most_steps p.state.config.layout) p.state r
   act_by p i false r = stepped_reached p i (pipe_idle (slice_get p.state.pipes i)) (share_of (slice_get p.shares i)) r
 
-  picked_reached : (p : Play) (x : ℕ) (i : Option ℕ) → Reaches k p.state → Reaches k (pick_by p x i).state
-  picked_reached p x None r = r
-  picked_reached p x (Some i) r = act_by p i (i == pipes_of p) r
-
-  played_reached : (n : ℕ) (p : Play) → Reaches k p.state → Reaches k (played n p).state
-  played_reached zero p r = r
-  played_reached (suc n) p r =
-      played_reached n (pick p) (picked_reached p (next_state p.generator) (picked p (next_state p.generator)) r)
+  acted_reached : (actors : List ℕ) (p : Play) → Reaches k p.state → Reaches k (acted actors p).state
+  acted_reached [] p r = r
+  acted_reached (i ∷ rest) p r = acted_reached rest (act_of p i) (act_by p i (i == pipes_of p) r)
 
   -- a round
-  pub plays_reached : (p q : Play) → Reaches k p.state → PlaysTo p q → Reaches k q.state
-  plays_reached p q r plays = subst (λ (x : Play). Reaches k x.state) plays.1 (played_reached plays.0 p r)
+  acts_reached : (p q : Play) → Reaches k p.state → ActsTo p q → Reaches k q.state
+  acts_reached p q r acts = subst (λ (x : Play). Reaches k x.state) acts.1 (acted_reached acts.0 p r)
 
-  rounds_reached : (packets : List Timed) (rounds : List Round) (x : ℕ) (s : Core) (y : ℕ) (t : Core) → Reaches k s
-      → Rounds packets rounds x s y t → Reaches k t
-  rounds_reached packets [] x s y t r e = subst (Reaches k) (sym e.1) r
-  rounds_reached packets (round ∷ rest) x s y t r (q, plays, more) =
-      rounds_reached packets rest q.generator q.state y t
-      (plays_reached (round_begun packets round x s) q (reaches_after s (Due round.start_ms) r) plays) more
+  pub plays_reached : (p q : Play) → Reaches k p.state → PlaysTo p q → Reaches k q.state
+  plays_reached p q r plays = acts_reached (bare p) (bare q) r (plays_act p q plays)
+
+  rounds_reached : (packets : List Timed) (rounds : List Round) (s t : Core) → Reaches k s → RoundsByActs packets rounds s t
+      → Reaches k t
+  rounds_reached packets [] s t r e = subst (Reaches k) (sym e) r
+  rounds_reached packets (round ∷ rest) s t r (q, acts, more) =
+      rounds_reached packets rest q.state t
+      (acts_reached (round_begun packets round 0 s) q (reaches_after s (Due round.start_ms) r) acts) more
 
   -- the turns after the last round
   turned_reached : (s t : Core) (a : Turn) → turned s ≡ Some (a, t) → Reaches k s → Reaches k t
@@ -141,8 +139,12 @@ module _ (k : Config) where
   settled_reached (suc n) s t r there e =
       settled_by n s t r (turned s) refl (λ u. settled_reached n u t r) there e
 
-  -- the whole run
+  -- the whole run: its last round, and the turns after it
+  pub rounds_run_reached : (packets : List Timed) (r : Settled) (t : Core) → (h : RunsByActs k packets r t) → Reaches k h.state
+  rounds_run_reached packets r t h = rounds_reached packets _ (opening k) h.state ([], refl) h.rounds
+
+  pub acts_run_reached : (packets : List Timed) (r : Settled) (t : Core) → RunsByActs k packets r t → Reaches k t
+  acts_run_reached packets r t h = settled_reached h.settles.0 h.state t r (rounds_run_reached packets r t h) h.settles.1
+
   pub run_reached : (seed : ℕ) (packets : List Timed) (r : Settled) (t : Core) → RunsByPicks k seed packets r t → Reaches k t
-  run_reached seed packets r t h =
-      settled_reached h.settles.0 h.state t r
-      (rounds_reached packets _ seed (opening k) h.generator h.state ([], refl) h.rounds) h.settles.1
+  run_reached seed packets r t h = acts_run_reached packets r t (run_acts k seed packets r t h)

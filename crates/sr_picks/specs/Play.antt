@@ -132,3 +132,14 @@ played (suc n) p = played n (pick p)
 -- picks lead to the end of the round
 abbrev pub PlaysTo : Play → Play → Type 0
 PlaysTo p q = (n : ℕ) × (played n p ≡ q) × (is_over q ≡ true)
+
+-- ---- a round of which nobody says who is next
+
+-- these actors act, one after another
+abbrev pub acted : List ℕ → Play → Play
+acted [] p = p
+acted (i ∷ rest) p = acted rest (act_of p i)
+
+-- acts lead to the end of the round, in whatever order
+abbrev pub ActsTo : Play → Play → Type 0
+ActsTo p q = (actors : List ℕ) × (acted actors p ≡ q) × (is_over q ≡ true)

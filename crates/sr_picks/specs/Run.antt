@@ -8,7 +8,7 @@ use Rattle.sr_machine.specs.Core.{Core, opening}
 use Rattle.sr_machine.specs.Settling.{Settles}
 use Rattle.sr_machine.specs.declared.event.Event.TheVariants.{Due}
 use Rattle.sr_machine.specs.declared.settled.Settled.{Settled}
-use Rattle.sr_picks.specs.Play.{Play, PlaysTo}
+use Rattle.sr_picks.specs.Play.{ActsTo, Play, PlaysTo}
 use Rattle.sr_picks.specs.Turn.{after}
 use Rattle.sr_rounds.specs.Rounds.{rounds_of}
 use Rattle.sr_rounds.specs.declared.round.Round.{Round}
@@ -45,4 +45,18 @@ pub record RunsByPicks (k : Config) (seed : ℕ) (packets : List Timed) (r : Set
   -- the state after it
   pub state : Core
   pub rounds : Rounds packets (rounds_of k.layout.shape.window_ms packets) seed (opening k) generator state
+  pub settles : Settles state r t
+
+-- ---- whoever acts next
+
+-- these rounds lead from a state to another, whoever acts next in them; no act asks the generator
+abbrev pub RoundsByActs : List Timed → List Round → Core → Core → Type 0
+RoundsByActs packets [] s t = t ≡ s
+RoundsByActs packets (r ∷ rest) s t = (q : Play) × ActsTo (round_begun packets r 0 s) q × RoundsByActs packets rest q.state t
+
+-- A run of these packets round by round, whoever acts next in each: all rounds, and then turns until they end so, in this state.
+pub record RunsByActs (k : Config) (packets : List Timed) (r : Settled) (t : Core) : Type 0 where
+  -- the state after the last round
+  pub state : Core
+  pub rounds : RoundsByActs packets (rounds_of k.layout.shape.window_ms packets) (opening k) state
   pub settles : Settles state r t

@@ -8,7 +8,7 @@ ghost use Rattle.sr_machine.specs.declared.settled.Settled.{Settled as ASettled}
 ghost use Rattle.sr_machine.specs.declared.turn.Turn.{Turn as ATurn};
 ghost use Rattle.sr_picks.specs.Left.{PicksLower};
 ghost use Rattle.sr_picks.specs.Play.{Play, PlaysTo, is_over, picked};
-ghost use Rattle.sr_picks.specs.Run.{RunsByPicks};
+ghost use Rattle.sr_picks.specs.Run.{RunsByActs, RunsByPicks};
 ghost use Rattle.sr_picks.specs.Turn.{turn_of};
 ghost use Rattle.sr_rounds.specs.declared.timed.Timed.{Timed as ATimed};
 
@@ -17,6 +17,13 @@ pub fn picks_are_runs()
     ensures round { (k : Config) (p q : Play) → Reaches k p.state → PlaysTo p q → Reaches k q.state }
     ensures whole { (k : Config) (seed : ℕ) (packets : List ATimed) (r : ASettled) (t : AState) → RunsByPicks k seed packets r t
         → Reaches k t }
+{}
+
+/// A law: a run round by round is a run of the machine, whoever acts next; and a run by picks is one round by round.
+pub fn acts_are_runs()
+    ensures reached { (k : Config) (packets : List ATimed) (r : ASettled) (t : AState) → RunsByActs k packets r t → Reaches k t }
+    ensures picked { (k : Config) (seed : ℕ) (packets : List ATimed) (r : ASettled) (t : AState) → RunsByPicks k seed packets r t
+        → RunsByActs k packets r t }
 {}
 
 /// A law: a run by picks ends in one way alone, so its state and how its turns end are a function of the machine, the seed and the

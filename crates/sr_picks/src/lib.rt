@@ -1,5 +1,6 @@
 //! A run by picks: in each round a generator picks who acts next, a pipe with one step or the controller with one turn, so that a run
-//! of the machine follows from a number and can be had again anywhere.
+//! of the machine follows from a number and can be had again anywhere. What needs no generator is said of a run round by round in which
+//! nobody says who is next.
 //!
 //! | part | `specs/` |
 //! |---|---|
@@ -11,4 +12,4 @@
 
 mod laws;
 
-pub use laws::{picks_are_runs, rounds_end, runs_end_once, turns_are_turns};
+pub use laws::{acts_are_runs, picks_are_runs, rounds_end, runs_end_once, turns_are_turns};

@@ -1,5 +1,5 @@
 -- What events, turns and picks make of a held machine.
-use Rattle.std.proofs.Common.{◌≡◌, ◌∙◌, ℕ, zero, suc, ◌+◌, ◌%◌, ◌<◌, ◌≤◌, nat_eq, Bool, true, false, not, find, List, [], ◌∷◌, length, drop, Option, None, Some, refl, sym, ap, subst, unwrap_or, slice_get, slice_set, arith, get_or, MatchOption}
+use Rattle.std.proofs.Common.{◌≡◌, ◌∙◌, ℕ, zero, suc, ◌+◌, ◌%◌, ◌<◌, ◌≤◌, nat_eq, Bool, true, false, not, find, List, [], ◌∷◌, ◌++◌, length, drop, Option, None, Some, refl, sym, ap, subst, unwrap_or, slice_get, slice_set, arith, get_or, MatchOption}
 use Rattle.std.proofs.lemmas.Bool.Decides.{nat_tests}
 use Rattle.std.proofs.lemmas.Option.{slice_get_past, slice_get_read}
 use Rattle.sr_base.specs.declared.packet.Packet.{Packet}
@@ -16,14 +16,15 @@ use Rattle.sr_base.specs.WordName.{word_at}
 use Rattle.sr_gen.specs.Generator.{drawn, next_state}
 use Rattle.sr_machine.specs.Names.{word_name}
 use Rattle.sr_picks.proofs.Lowers.{picks_lower}
-use Rattle.sr_picks.proofs.Picked.{none_picked}
+use Rattle.sr_picks.proofs.Acts.{acted_on}
+use Rattle.sr_picks.proofs.Picked.{found_goes_on, none_found, none_picked}
 use Rattle.sr_picks.specs.Left.{left_of}
 use Rattle.sr_core.specs.HeldPipes.{idle_of, is_idle_at}
 use Rattle.sr_machine.specs.declared.actor.Actor.TheVariants as actor
 use Rattle.sr_machine.specs.declared.event.Event.{Event}
 use Rattle.sr_machine.specs.declared.event.Event.TheVariants.{Enter, Step}
 use Rattle.sr_machine.specs.declared.pipe_view.PipeView.{PipeView}
-use Rattle.sr_picks.specs.Play.{Play, PlaysTo, act_of, all_done, controller_picked, finds_nothing, has_ended, is_handled, order_from, pick, pick_by, picked, pipe_idle, pipe_picked, played, share_of, stepped_by, waits_after}
+use Rattle.sr_picks.specs.Play.{ActsTo, Play, PlaysTo, act_of, acted, all_done, controller_picked, finds_nothing, has_ended, is_handled, order_from, pick, pick_by, picked, pipe_idle, pipe_picked, played, share_of, stepped_by, waits_after}
 use Rattle.sr_picks.specs.Turn.{Turned, after, ended_or, turn_in, turn_of, turn_on}
 use Rattle.sr_steps.specs.Standing.{EventMade, EventsMade, PlayMade, StandingView, StandsForPlay, TakesAt, TakesFrom, no_words, play_of}
 
@@ -258,5 +259,31 @@ pub plays_over : (p : Play) (h : HeldCore) (st : StandingView)
 plays_over p h st so_far none = (
   play_of h so_far.1 st,
   (so_far.0, so_far.3, none_picked (play_of h so_far.1 st) (next_state st.generator) none),
+  (so_far.1, so_far.2, refl),
+)
+
+-- ---- acts in order, one after another
+
+-- the first actor that goes on is found, whatever the words
+pub first_goes_on : (h : HeldCore) (st : StandingView) (i : ℕ)
+    → Some i ≡ find (λ j. not (has_ended (play_of h no_words st) j)) (order_from h.config.layout.shape.pipes 0)
+    → has_ended (play_of h no_words st) i ≡ false
+first_goes_on h st i e = found_goes_on (play_of h no_words st) 0 i (sym e)
+
+pub acts_on : (p : Play) (actors : List ℕ) (h new : HeldCore) (st is : StandingView) (now : Name → ℕ) (i : ℕ)
+    → ShowsWords h.config.layout h.words now → acted actors p ≡ play_of h now st → PlayMade (λ q. act_of q i) h st new is
+    → (more : List ℕ) × (then_words : Name → ℕ) × ShowsWords new.config.layout new.words then_words
+    × (acted more p ≡ play_of new then_words is)
+acts_on p actors h new st is now i shows so_far acts =
+    let there = acts now shows in
+    (actors ++ i ∷ [], there.0, there.1, acted_on actors (i ∷ []) p ∙ ap (λ q. act_of q i) so_far ∙ there.2)
+
+pub acts_over : (p : Play) (h : HeldCore) (st : StandingView)
+    → ((actors : List ℕ) × (now : Name → ℕ) × ShowsWords h.config.layout h.words now × (acted actors p ≡ play_of h now st))
+    → None ≡ find (λ j. not (has_ended (play_of h no_words st) j)) (order_from h.config.layout.shape.pipes 0)
+    → (q : Play) × ActsTo p q × StandsForPlay h st q
+acts_over p h st so_far e = (
+  play_of h so_far.1 st,
+  (so_far.0, so_far.3, none_found (play_of h so_far.1 st) 0 (omega arith) (sym e)),
   (so_far.1, so_far.2, refl),
 )

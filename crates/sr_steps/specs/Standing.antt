@@ -10,7 +10,7 @@ use Rattle.sr_machine.specs.declared.event.Event.TheVariants.{Refuse}
 use Rattle.sr_machine.specs.declared.settled.Settled.{Settled}
 use Rattle.sr_machine.specs.declared.name.Name.{Name}
 use Rattle.sr_machine.specs.declared.turn.Turn.{Turn}
-use Rattle.sr_picks.specs.Play.{Play, PlaysTo, share_of}
+use Rattle.sr_picks.specs.Play.{ActsTo, Play, PlaysTo, share_of}
 use Rattle.sr_picks.specs.Turn.{after, turn_of}
 
 -- what stands beside the machine
@@ -77,6 +77,12 @@ abbrev pub Plays : HeldCore → StandingView → HeldCore → StandingView → T
 Plays old was new is =
     (words : Name → ℕ) → ShowsWords old.config.layout old.words words
     → (q : Play) × PlaysTo (play_of old words was) q × StandsForPlay new is q
+
+-- acts lead to its end, whoever is next
+abbrev pub Acts : HeldCore → StandingView → HeldCore → StandingView → Type 0
+Acts old was new is =
+    (words : Name → ℕ) → ShowsWords old.config.layout old.words words
+    → (q : Play) × ActsTo (play_of old words was) q × StandsForPlay new is q
 
 -- ---- the turns after the last round
 

@@ -1,6 +1,6 @@
 ghost use Rattle.std.specs.Prelude.{◌≡◌, ◌^◌, ◌<◌, false, IfOk};
 ghost use Rattle.sr_picks.specs.Play.{act_of, controller_picked, finds_nothing, has_ended, pipe_picked};
-ghost use Rattle.sr_steps.specs.Standing.{EventMade, EventsMade, PlayMade, Plays, no_words, play_of};
+ghost use Rattle.sr_steps.specs.Standing.{Acts, EventMade, EventsMade, PlayMade, Plays, no_words, play_of};
 ghost use Rattle.sr_machine.specs.declared.actor.Actor.TheVariants as actor;
 ghost use Rattle.sr_machine.specs.declared.event.Event.TheVariants.{Enter as ToEnter, Step as ToStep};
 
@@ -24,6 +24,19 @@ pub fn play(core: &mut Core, standing: &mut Standing) -> Result<(), AllocError>
                 act(core, standing, actor)?;
                 standing.drawn(generator);
             }
+            None => return Ok(()),
+        }
+    }
+}
+
+/// Plays a round in order: each pipe handles its share, one pipe after another and each packet whole, and then the controller makes its
+/// turns.
+pub fn play_in_order(core: &mut Core, standing: &mut Standing) -> Result<(), AllocError>
+    ensures { IfOk result (λ done. Acts core.old standing.old core.new standing.new) }
+{
+    loop {
+        match standing.first_from(core, 0) {
+            Some(actor) => act(core, standing, actor)?,
             None => return Ok(()),
         }
     }

@@ -75,7 +75,7 @@ fn play_round(
 }
 
 // What each of so many pipes handles of a round's packets.
-fn shares(
+pub(crate) fn shares(
     alloc: Global,
     packets: &[Timed],
     round: &Round,
