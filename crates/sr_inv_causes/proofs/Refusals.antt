@@ -1,46 +1,37 @@
 -- A refused change has its cause: each version of some virtual address is in use by the lines.
-use Rattle.std.proofs.Common.{◌≡◌, ℕ, zero, suc, ◌+◌, ◌<◌, ◌≤◌, ◌≢◌, ◌&&◌, ◌||◌, ◌==◌, Bool, true, false, cond, ◌⊎◌, List, [], ◌∷◌, length, is_some, Some, None, Option, if◌then◌else◌, count_by, sum_by, sym, refl, ap, ◌∙◌, subst, inl, inr, arith}
+use Rattle.std.proofs.Common.{◌≡◌, ℕ, zero, suc, ◌+◌, ◌<◌, ◌≤◌, ◌≢◌, ◌||◌, ◌==◌, Bool, true, false, cond, ◌⊎◌, List, [], ◌∷◌, length, Some, None, Option, if◌then◌else◌, sym, refl, ap, ◌∙◌, subst, inl, inr, arith}
 use Rattle.std.proofs.lemmas.Bool.Decides.{nat_tests}
 use Rattle.std.proofs.lemmas.List.Sums.{sum_by-cons}
-use Rattle.std.proofs.lemmas.Option.{same_Some}
-use Rattle.std.specs.List.{AllByRecursion, list_any}
+use Rattle.std.specs.List.{list_any}
 use Rattle.std.specs.Option.{option_or}
 use Rattle.sr_base.proofs.Sameness.{same_key-true}
 use Rattle.sr_base.specs.Key.{KeyView, same_key}
-use Rattle.sr_base.specs.declared.kind.Kind.{Kind}
 use Rattle.sr_base.specs.declared.kind.Kind.TheVariants.{Opener, Carry, Ending}
-use Rattle.sr_base.specs.declared.vip_word.Phase.TheVariants.{Steady}
-use Rattle.sr_inv_clauses.proofs.Choices.{next_used}
 use Rattle.sr_inv_clauses.proofs.Learned.{leaving_learned}
 use Rattle.sr_inv_facts.proofs.Lists.{all_in}
-use Rattle.sr_inv_facts.specs.InCauses.{setup_of}
 use Rattle.sr_inv_facts.specs.InOpenings.{EntryOpened, IsAwaited, IsUnopened}
 use Rattle.sr_inv_facts.specs.InUpdate.{AllTaken, IsAside, IsNew, IsRefused, OnRefused, newest, standing}
 use Rattle.sr_inv_facts.specs.Invariant.{Invariant}
 use Rattle.sr_inv_facts.specs.Readings.{In}
 use Rattle.sr_inv_order.proofs.Grouped.{pools_count}
 use Rattle.sr_inv_order.proofs.Rising.{and_true}
-use Rattle.sr_law.specs.Cause.{all_in_use, meets_cause, some_all_in_use}
+use Rattle.sr_law.specs.Cause.{all_in_use, some_all_in_use}
 use Rattle.sr_law.specs.Given.{has_version, last_given}
 use Rattle.sr_law.specs.Number.{holds_version, is_held_open, is_in_use, opened_with}
 use Rattle.sr_law.specs.Opening.{opened, opened_by, opening, retires}
 use Rattle.sr_law.specs.Ticks.{key_of}
 use Rattle.sr_law.specs.declared.line.Line.{Line}
 use Rattle.sr_law.specs.declared.opening.Opening.{Opening}
-use Rattle.sr_law.specs.declared.verdict.Verdict.{Verdict}
-use Rattle.sr_machine.specs.Config.{Config}
 use Rattle.sr_machine.specs.Core.{Core, printed}
-use Rattle.sr_machine.specs.Deciding.{learned, learned_in, named_at, vip_at}
-use Rattle.sr_machine.specs.declared.pool_update.PoolUpdate.{PoolUpdate}
+use Rattle.sr_machine.specs.Deciding.{learned, learned_in, vip_at}
 use Rattle.sr_shadow.specs.Book.{count_of}
 use Rattle.sr_shadow.specs.Entry.{has_version as entry_has}
 use Rattle.sr_shadow.specs.declared.entry.Entry.{Entry}
 use Rattle.sr_update.specs.Numbers.{state_of}
-use Rattle.sr_update.specs.declared.number_state.NumberState.TheVariants.{Free, Current, Draining}
+use Rattle.sr_update.specs.declared.number_state.NumberState.TheVariants.{Current, Draining}
 use Rattle.sr_machine.specs.declared.draw.Draw.TheVariants as draw
 use Rattle.sr_machine.specs.declared.job.Job.TheVariants as job
 use Rattle.sr_law.specs.declared.line.Line.TheVariants as line
-use Rattle.sr_machine.specs.declared.name.Name.TheVariants as name
 
 -- ---- an open connection has a line
 
@@ -52,7 +43,7 @@ or_second : (a b : Bool) → b ≡ true → (a || b) ≡ true
 or_second true b h = refl
 or_second false b h = h
 
-or_first : (a b : Bool) → a ≡ true → (a || b) ≡ true
+pub or_first : (a b : Bool) → a ≡ true → (a || b) ≡ true
 or_first true b h = refl
 or_first false b h = cc
 
@@ -173,7 +164,7 @@ module _ (s : Core) (i : Invariant s) (change : ℕ) (e : s.controller.job ≡ j
           by x v m (opening (printed s) x.key) refl
           (all_in (λ x. EntryOpened s.config s.controller.vips s.controller.named s.controller.down s.controller.job s.pipes x (opening (printed s) x.key)) s.controller.book.entries x i.openings.openings.entry there)
 
-  all_used : (vip : ℕ) → vip < s.config.layout.vips
+  pub all_used : (vip : ℕ) → vip < s.config.layout.vips
       → AllTaken s.config.layout.shape.versions s.controller.numbers s.controller.book.entries vip
       → (n : ℕ) → n ≤ s.config.layout.shape.versions → all_in_use (printed s) vip n ≡ true
   all_used vip h a zero le = refl

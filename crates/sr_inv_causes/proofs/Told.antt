@@ -1,7 +1,5 @@
 -- Every event keeps that each verdict that is printed has its cause.
-use Rattle.std.proofs.Common.{◌≡◌, ℕ, ◌+◌, ◌*◌, ◌<◌, ◌&&◌, ◌||◌, not, Bool, true, false, List, [], ◌∷◌, slice_get, is_some, Some, None, Option, option_map, if◌then◌else◌, sym, refl, ap, ◌∙◌, subst}
-use Rattle.std.proofs.lemmas.Option.{same_Some}
-use Rattle.std.specs.List.{AllByRecursion, list_any}
+use Rattle.std.proofs.Common.{◌≡◌, ℕ, ◌&&◌, ◌||◌, not, Bool, true, false, List, [], ◌∷◌, slice_get, is_some, Some, None, Option, option_map, if◌then◌else◌, sym, refl, ap, ◌∙◌, subst}
 use Rattle.std.specs.Option.{option_or}
 use Rattle.sr_base.specs.Key.{KeyView}
 use Rattle.sr_base.specs.Place.{same_place}
@@ -9,9 +7,7 @@ use Rattle.sr_base.specs.declared.kind.Kind.{Kind}
 use Rattle.sr_base.specs.declared.kind.Kind.TheVariants.{Opener, Carry, Ending}
 use Rattle.sr_base.specs.declared.place.Place.{Place}
 use Rattle.sr_base.specs.declared.place.Place.TheVariants.{Row}
-use Rattle.sr_base.specs.declared.vip_word.Phase.{Phase}
-use Rattle.sr_base.specs.declared.vip_word.Phase.TheVariants.{Steady, Recording, Holding, Transit}
-use Rattle.sr_hash.specs.Uses.{group_of}
+use Rattle.sr_base.specs.declared.vip_word.Phase.TheVariants.{Holding, Transit}
 use Rattle.sr_inv_causes.proofs.Refusals.{refusal_told}
 use Rattle.sr_inv_causes.proofs.Transits.{transit_told}
 use Rattle.sr_inv_causes.specs.Caused.{CausesTold}
@@ -22,8 +18,8 @@ use Rattle.sr_inv_clauses.proofs.Opens.{opens_each}
 use Rattle.sr_inv_facts.specs.Fitted.{IsPacket}
 use Rattle.sr_inv_facts.specs.Flying.{OnLeg}
 use Rattle.sr_inv_facts.specs.InCauses.{LegCaused, VerdictCaused, setup_of}
-use Rattle.sr_inv_facts.specs.InFlight.{FlightHolds, WordKnown}
-use Rattle.sr_inv_facts.specs.InJobs.{AnswerNames, IsDead, book_taking, seen}
+use Rattle.sr_inv_facts.specs.InFlight.{WordKnown}
+use Rattle.sr_inv_facts.specs.InJobs.{AnswerNames, IsGroupHeld, book_taking, job_taking, seen}
 use Rattle.sr_inv_facts.specs.InShape.{MayBeOut, StageFits}
 use Rattle.sr_inv_facts.specs.InSweeps.{is_live_taking}
 use Rattle.sr_inv_facts.specs.Invariant.{Invariant}
@@ -32,9 +28,9 @@ use Rattle.sr_inv_order.proofs.Joined.{each_part}
 use Rattle.sr_inv_order.proofs.Lines.{lines_keep}
 use Rattle.sr_inv_order.proofs.Placing.{taken_at}
 use Rattle.sr_inv_order.proofs.Rising.{and_true, not_false}
-use Rattle.sr_law.specs.Cause.{answer_cause, held_cause, is_opener, meets_cause, packet_cause}
+use Rattle.sr_law.specs.Cause.{answer_cause, is_opener, meets_cause, packet_cause}
 use Rattle.sr_law.specs.Full.{may_be_full}
-use Rattle.sr_law.specs.Held.{last_hold, may_clash, may_hold, not_finished, not_switched}
+use Rattle.sr_law.specs.Held.{may_clash, may_hold}
 use Rattle.sr_law.specs.Rows.{is_group_full, is_live, live_after}
 use Rattle.sr_law.specs.Taken.{now_placed, taken, taken_after}
 use Rattle.sr_law.specs.TakenDown.{is_down as told_down, is_known_down}
@@ -45,16 +41,13 @@ use Rattle.sr_law.specs.declared.verdict.Verdict.{Verdict}
 use Rattle.sr_machine.specs.Config.{Config}
 use Rattle.sr_machine.specs.Core.{Core, printed}
 use Rattle.sr_machine.specs.Deciding.{is_down, named_at, server_for, verdict_of}
-use Rattle.sr_machine.specs.Draws.{answer_line}
 use Rattle.sr_machine.specs.Keeping.{Keeps}
-use Rattle.sr_machine.specs.Pipe.{packet_line}
 use Rattle.sr_machine.specs.Stages.{verdict_by}
 use Rattle.sr_machine.specs.declared.flight.Flight.{Flight}
 use Rattle.sr_machine.specs.declared.job.Job.{Job}
 use Rattle.sr_machine.specs.declared.leg.Leg.TheVariants.{Judged}
 use Rattle.sr_machine.specs.declared.pipe_view.PipeView.{PipeView}
 use Rattle.sr_machine.specs.declared.reply.Reply.{Reply}
-use Rattle.sr_machine.specs.declared.stage.Stage.{Stage}
 use Rattle.sr_machine.specs.declared.stage.Stage.TheVariants.{Fly}
 use Rattle.sr_shadow.specs.Book.{entry_for, holder_of}
 use Rattle.sr_shadow.specs.declared.entry.Entry.{Entry}
@@ -153,31 +146,36 @@ module _ (s : Core) (i : Invariant s) where
 
   -- ---- an answer
 
-  row_live : (r : Reply) → s.controller.job ≡ job.Draw (draw.Answer r) → (row : ℕ)
+  -- where the job takes no place, a row that an entry holds is live by the lines
+  row_live : (j : Job) → s.controller.job ≡ j → (row : ℕ) → job_taking j (Row row) ≡ None
       → is_some (holder_of (Row row) s.controller.book.entries) ≡ true
       → is_live (printed s) (Row row) ≡ true
-  row_live r e row h =
+  row_live j e row free h =
       taken_live (printed s) (Row row)
-      (ap is_live_taking (taken_at s i (job.Draw (draw.Answer r)) e (Row row)) ∙ at (holder_of (Row row) s.controller.book.entries) h)
+      (ap is_live_taking (taken_at s i j e (Row row) ∙ ap (λ o. option_or o (book_taking s.controller.book.entries (Row row))) free) ∙ at (holder_of (Row row) s.controller.book.entries) h)
     where
       at : (o : Option KeyView) → is_some o ≡ true → is_live_taking (option_map (λ key. record { key = key; placed = true }) o) ≡ true
       at None g = cc
       at (Some key) g = refl
 
+  -- so a group whose rows are all held is full by them
+  pub group_full : (j : Job) → s.controller.job ≡ j → ((place : Place) → job_taking j place ≡ None) → (key : KeyView)
+      → IsGroupHeld s.config.layout.shape s.controller.book.entries key
+      → is_group_full s.config.layout.shape (printed s) key ≡ true
+  unfolding is_group_full
+  group_full j e free key h =
+      and_true _ _ (and_true _ _ (and_true _ _ (row_live j e _ (free _) h.0) (row_live j e _ (free _) h.1.0)) (row_live j e _ (free _) h.1.1.0))
+      (row_live j e _ (free _) h.1.1.1.0)
+
   group_told : (r : Reply) → s.controller.job ≡ job.Draw (draw.Answer r)
       → AnswerNames s.config (seen s.controller) r (entry_for r.held.key s.controller.book.entries) None
       → is_group_full s.config.layout.shape (printed s) r.held.key ≡ true
-  unfolding is_group_full
   group_told r e names = at (entry_for r.held.key s.controller.book.entries) names
     where
-      first : ℕ
-      first = 4 * group_of r.held.key s.config.layout.shape.full_rows
-
       at : (o : Option Entry) → AnswerNames s.config (seen s.controller) r o None
-          → (is_live (printed s) (Row (4 * group_of r.held.key s.config.layout.shape.full_rows)) && is_live (printed s) (Row (4 * group_of r.held.key s.config.layout.shape.full_rows + 1)) && is_live (printed s) (Row (4 * group_of r.held.key s.config.layout.shape.full_rows + 2)) && is_live (printed s) (Row (4 * group_of r.held.key s.config.layout.shape.full_rows + 3))) ≡ true
+          → is_group_full s.config.layout.shape (printed s) r.held.key ≡ true
       at (Some n) h = cc
-      at None h =
-          and_true _ _ (and_true _ _ (and_true _ _ (row_live r e _ h.0) (row_live r e _ h.1.0)) (row_live r e _ h.1.1.0)) (row_live r e _ h.1.1.1.0)
+      at None h = group_full (job.Draw (draw.Answer r)) e (λ place. refl) r.held.key h
 
   answer_told : (r : Reply) → s.controller.job ≡ job.Draw (draw.Answer r)
       → answer_cause s.config.layout.shape (printed s) r.held.key (verdict_of s.config s.controller.named s.controller.down r.held.key r.version) ≡ true

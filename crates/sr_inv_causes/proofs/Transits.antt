@@ -1,44 +1,37 @@
 -- An opener that the filter held has its cause: each of its places was set by a packet whose line is printed.
-use Rattle.std.proofs.Common.{◌≡◌, ℕ, zero, suc, ◌+◌, ◌-◌, ◌%◌, ◌<◌, ◌≤◌, ◌≢◌, ◌&&◌, ◌||◌, ◌==◌, not, Bool, true, false, ◌⊎◌, List, [], ◌∷◌, length, take, slice_get, Some, None, Option, if◌then◌else◌, nat_lt, sym, refl, ap, ◌∙◌, subst, inl, inr, arith}
+use Rattle.std.proofs.Common.{◌≡◌, ℕ, zero, suc, ◌-◌, ◌<◌, ◌≢◌, ◌&&◌, ◌||◌, ◌==◌, Bool, true, false, ◌⊎◌, List, [], ◌∷◌, length, take, Some, None, Option, if◌then◌else◌, nat_lt, sym, refl, ap, ◌∙◌, subst, inl, inr, arith}
 use Rattle.std.proofs.lemmas.Bool.Decides.{nat_tests}
 use Rattle.std.proofs.lemmas.Option.{same_Some}
 use Rattle.std.proofs.lemmas.Nat.{mod_below}
 use Rattle.std.specs.List.{AllByRecursion, list_all, list_any}
 use Rattle.std.specs.Option.{option_or}
-use Rattle.sr_base.specs.Key.{KeyView}
-use Rattle.sr_base.specs.Layout.{IsLayout, LayoutView}
 use Rattle.sr_base.specs.declared.vip_word.Phase.{Phase}
 use Rattle.sr_base.specs.declared.vip_word.Phase.TheVariants.{Steady, Recording, Holding, Transit}
-use Rattle.sr_base.specs.declared.vip_word.VipWord.{VipWord}
 use Rattle.sr_hash.specs.Uses.{bloom_places_of}
 use Rattle.sr_inv_clauses.proofs.Learned.{IsWaited, earlier_waited, flight_at}
 use Rattle.sr_inv_facts.proofs.Lists.{of_some}
-use Rattle.sr_inv_facts.specs.Doing.{HasEarlier, word_before}
-use Rattle.sr_inv_facts.specs.Flying.{OnFlight}
+use Rattle.sr_inv_facts.specs.Doing.{word_before}
 use Rattle.sr_inv_facts.specs.InCauses.{AllMeet, setup_of}
 use Rattle.sr_inv_facts.specs.InFilter.{IsSetBy, Markers, SetsNow}
-use Rattle.sr_inv_facts.specs.InFlight.{FlightHolds, HasWord}
+use Rattle.sr_inv_facts.specs.InFlight.{HasWord}
 use Rattle.sr_inv_facts.specs.InUpdate.{IsAside, IsWordOf, UpdateFits}
 use Rattle.sr_inv_facts.specs.Invariant.{Invariant}
 use Rattle.sr_inv_facts.specs.Readings.{SomePipe, bit_words, is_marked, is_set_in}
 use Rattle.sr_inv_order.proofs.Rising.{and_true}
-use Rattle.sr_law.specs.Groups.{after_gives, goes_on, is_opening_give, keeps_groups, last_of_update, names_next_pool, was_recorded}
-use Rattle.sr_law.specs.Held.{hold_tick, in_filter, is_set, last_hold, may_transit, not_finished, recorded_giving, records}
+use Rattle.sr_law.specs.Groups.{after_gives, goes_on, is_opening_give, keeps_groups, last_of_update, was_recorded}
+use Rattle.sr_law.specs.Held.{hold_tick, is_set, last_hold, may_transit, not_finished, recorded_giving, records}
 use Rattle.sr_law.specs.Order.{meets_order}
 use Rattle.sr_law.specs.Retire.{EndingPacket}
 use Rattle.sr_law.specs.Setup.{SetupView}
 use Rattle.sr_law.specs.declared.line.Line.{Line}
 use Rattle.sr_law.specs.declared.verdict.Verdict.{Verdict}
-use Rattle.sr_machine.specs.Config.{Config}
 use Rattle.sr_machine.specs.Core.{Core, printed}
 use Rattle.sr_machine.specs.Deciding.{vip_at}
 use Rattle.sr_machine.specs.Reads.{steady}
-use Rattle.sr_machine.specs.Stages.{is_opener, is_recorded, is_recording, is_to, key_bits}
+use Rattle.sr_machine.specs.Stages.{is_opener, is_recorded, is_recording}
 use Rattle.sr_machine.specs.Stores.{phase_word}
 use Rattle.sr_machine.specs.declared.flight.Flight.{Flight}
-use Rattle.sr_machine.specs.declared.leg.Leg.{Leg}
 use Rattle.sr_machine.specs.declared.leg.Leg.TheVariants.{Judged}
-use Rattle.sr_machine.specs.declared.pipe_view.PipeView.{PipeView}
 use Rattle.sr_machine.specs.declared.pool_update.PoolUpdate.{PoolUpdate}
 use Rattle.sr_machine.specs.declared.stage.Stage.{Stage}
 use Rattle.sr_machine.specs.declared.stage.Stage.TheVariants.{Fly}

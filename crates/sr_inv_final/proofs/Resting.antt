@@ -15,7 +15,7 @@ use Rattle.sr_machine.specs.Deciding.{ring_count}
 use Rattle.sr_machine.specs.Reads.{read_report}
 use Rattle.sr_machine.specs.declared.pipe_view.PipeView.{PipeView}
 
-zero_reported : (l : LayoutView) (x : ℕ) (w : RingWord) → x ≡ 0 → read_report l x ≡ Some w → ⊥
+pub zero_reported : (l : LayoutView) (x : ℕ) (w : RingWord) → x ≡ 0 → read_report l x ≡ Some w → ⊥
 zero_reported l x w z e = let t : (x == 0) ≡ true = grind (arith, nat_tests) in none_reported l x w t e
 
 -- an empty cell holds no report
@@ -23,7 +23,7 @@ none_there : (l : LayoutView) (x : ℕ) → x ≡ 0 → IsReport l x → ⊥
 none_there l x z r = zero_reported l x r.report z (ap (read_report l) r.value ∙ report_read l r.report r.is_word r.vip)
 
 -- a ring whose next cell is empty has been taken whole
-all_taken : (l : LayoutView) (ring : ℕ → ℕ) (taken pushed : ℕ) → HoldsReports l ring taken pushed → ring (taken % l.shape.ring) ≡ 0
+pub all_taken : (l : LayoutView) (ring : ℕ → ℕ) (taken pushed : ℕ) → HoldsReports l ring taken pushed → ring (taken % l.shape.ring) ≡ 0
     → pushed ≤ taken
 all_taken l ring taken pushed h z = at (cases_lt taken pushed)
   where

@@ -108,7 +108,7 @@ module _ (s : Core) (i : Invariant s) (from ms : ℕ) (key : KeyView) (place : P
       past_on number s.controller.book.taken from ms fs hit_next_job (swept_rising (read_flag x) key es s.controller.book.taken i.shape.book.rising) refl e
       (subst (λ z. In z fs) (ap (λ b. if b then swept (read_flag x) e else e) t) (in_map (λ e. if is_of key e then swept (read_flag x) e else e) es e m)) p (hit_apart e m t)
 
-  hit_running : running_from hit_next_job ≡ Some from
+  pub hit_running : running_from hit_next_job ≡ Some from
   hit_running = running_on from ms (number + 1) fs
 
   drawn : (1 ≤ from) × (from < s.words name.Tick) × ControlledBefore from (printed s)

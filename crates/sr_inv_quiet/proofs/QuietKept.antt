@@ -84,7 +84,7 @@ module _ (s : Core) (i : Invariant s) where
 
   -- ---- a sweep ends
 
-  swept_carries : (from ms x : ℕ) (key : KeyView)
+  pub swept_carries : (from ms x : ℕ) (key : KeyView)
       → Carries (printed s) (line.Swept (s.controller.sweeps + 1) from x ms ∷ printed s) s.controller.sweeps (s.controller.sweeps + 1) (job.Draw (draw.Swept from ms)) job.Free key (s.controller.sweeps + 1)
   swept_carries from ms x key = record {
     placed = refl;

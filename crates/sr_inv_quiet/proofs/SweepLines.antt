@@ -27,7 +27,7 @@ use Rattle.sr_law.specs.declared.line.Line.TheVariants as line
 -- ---- what a line meets
 
 module _ (setup : SetupView) (endings : List EndingPacket) (before : List Line) (l : Line) (m : MeetsClauses setup endings before l) where
-  order_parts : (rises before l ≡ true) × (keeps_places before l ≡ true)
+  pub order_parts : (rises before l ≡ true) × (keeps_places before l ≡ true)
   unfolding meets_order
   order_parts =
       let groups = keeps_groups setup before l in

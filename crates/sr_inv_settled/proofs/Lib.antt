@@ -1,0 +1,13 @@
+pub mod DownsKept
+pub mod DueChanges
+pub mod Ending
+pub mod Finding
+pub mod GivesKept
+pub mod Joined
+pub mod Giving
+pub mod Placing
+pub mod Quieting
+pub mod Standing
+pub mod UsedJobs
+pub mod Using
+pub mod Waited

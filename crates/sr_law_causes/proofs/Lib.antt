@@ -1,0 +1,4 @@
+mod Walking
+pub mod Freely
+pub mod Reporting
+pub mod Unchanged
