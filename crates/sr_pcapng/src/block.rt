@@ -9,15 +9,12 @@ ghost use Rattle.sr_pcapng.specs.declared.stop.Stop.TheVariants.{ReadFault};
 use crate::ahead::Ahead;
 use crate::endian::Endian;
 use crate::front::Front;
-use crate::interface::Interface;
+use crate::interface::{Interface, MICROSECONDS};
 use crate::options::walk;
 use crate::packet_head::PacketHead;
 use crate::section::{Section, section_header};
 use crate::stop::Stop;
 use sr_io::Source;
-
-// The resolution of an interface that gives none: microseconds.
-const MICROSECONDS: u8 = 6;
 
 /// Reads a block, whose first eight bytes, or all that there are, have been read: the packet that it carries, if it carries one, and how many
 /// bytes it has. The captured bytes are put into the buffer `packet`.

@@ -2,7 +2,13 @@ ghost use Rattle.std.specs.Prelude.{◌≡◌, ◌<◌, ◌^◌, SomeIff};
 ghost use Rattle.sr_pcapng.specs.Interface.{milliseconds, units_of};
 
 // The latest time that is told, in milliseconds.
-const LATEST: u128 = (1 << 53) - 1;
+const LATEST: u64 = (1 << 53) - 1;
+
+/// The resolution of an interface that gives none: microseconds.
+pub const MICROSECONDS: u8 = 6;
+
+// The resolution in nanoseconds.
+const NANOSECONDS: u8 = 9;
 
 /// What an interface description says of the packets of its interface.
 #[derive(Clone, Copy, Debug, PartialEq, Eq)]
@@ -18,8 +24,19 @@ impl Interface {
     pub fn milliseconds(self, time: u64) -> u64
         ensures { result ≡ milliseconds self.resolution time }
     {
+        match self.resolution {
+            MICROSECONDS => (time / 1_000).min(LATEST),
+            NANOSECONDS => (time / 1_000_000).min(LATEST),
+            _ => self.quotient(time),
+        }
+    }
+
+    // Such a time, whatever the units are.
+    fn quotient(self, time: u64) -> u64
+        ensures { result ≡ milliseconds self.resolution time }
+    {
         match self.units() {
-            Some(units) => (time as u128 * 1_000 / units).min(LATEST) as u64,
+            Some(units) => (time as u128 * 1_000 / units).min(LATEST as u128) as u64,
             None => 0,
         }
     }

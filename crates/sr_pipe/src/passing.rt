@@ -71,6 +71,7 @@ fn pass_gate<B: Board, G: Gate>(
     entered: u64,
 )
     requires { IsFor (B.fits board.now) (B.beside board.now) (at_stage pipe.now (AVip packet.now entered)) }
+    ensures { G.passed gate.now pipe.now.view.number entered }
 {
     let _ = board;
     let _ = packet;
@@ -86,6 +87,7 @@ fn load_vip<B: Board>(board: &mut B, pipe: &PipeMachine, packet: &Packet, entere
         (known (B.fits board.new) (B.shows board.new) (B.beside board.new) (B.rests board.new))
         (staged pipe.now.view (Fly result (looking pipe.now.layout result (places_from pipe.now.layout result.packet.key 0)))) }
     ensures fits { FitsFlight pipe.now.layout result }
+    ensures entered { result.entered ≡ entered }
 {
     let vip = vip_of(packet);
     let x = board.load(WordName::Vip { vip });
@@ -117,6 +119,7 @@ pub(crate) fn begin<B: Board, G: Gate>(
         (known (B.fits board.new) (B.shows board.new) (B.beside board.new) (B.rests board.new))
         (staged pipe.now.view (Fly result (looking pipe.now.layout result (places_from pipe.now.layout result.packet.key 0)))) }
     ensures fits { FitsFlight pipe.now.layout result }
+    ensures gate { G.passed gate.now pipe.now.view.number result.entered }
 {
     let entered = draw_entry(board, pipe, packet);
     raise_note(board, pipe, packet, entered);

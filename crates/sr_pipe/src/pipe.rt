@@ -1,5 +1,6 @@
 ghost use Rattle.std.specs.Prelude.{◌≡◌, ℕ, ◌+◌, ◌-◌, ◌^◌, ◌<◌, ◌≤◌, ◌++◌, [], ◌∷◌, true, false, length, Some, OnOk};
 ghost use Rattle.sr_core.specs.HeldPipe.{room_after};
+ghost use Rattle.sr_law.specs.Ticks.{start_of};
 ghost use Rattle.sr_law.specs.declared.line.Line.{Line as ALine};
 ghost use Rattle.sr_machine.specs.Pipe.{entered, fresh_pipe, is_idle};
 ghost use Rattle.sr_machine.specs.declared.name.Name.{Name as AName};
@@ -138,6 +139,7 @@ impl Pipe {
             (known (B.fits board.new) (B.shows board.new) (B.beside board.new) (B.rests board.new)) self.new.view result }
         ensures idle { is_idle self.new.view.stage ≡ true }
         ensures line { self.new.view.lines ≡ self.old.view.lines ++ result ∷ [] }
+        ensures gate { G.passed gate.now self.old.view.number (start_of result) }
         ensures board { IsFor (B.fits board.new) (B.beside board.new) self.new }
         ensures beside { B.beside board.new ≡ B.beside board.old }
         ensures rest { B.rests board.old → B.rests board.new }
@@ -162,6 +164,7 @@ fn handle_on<B: Board, G: Gate>(
     ensures room { pipe.new.room ≡ pipe.old.room - 1 }
     ensures handled { HandledOn pipe.old.layout packet (known (B.fits board.old) (B.shows board.old) (B.beside board.old) (B.rests board.old)) pipe.old.view
         (known (B.fits board.new) (B.shows board.new) (B.beside board.new) (B.rests board.new)) pipe.new.view result }
+    ensures gate { G.passed gate.now pipe.old.view.number (start_of result) }
     ensures board { IsFor (B.fits board.new) (B.beside board.new) pipe.new }
     ensures beside { B.beside board.new ≡ B.beside board.old }
     ensures rest { B.rests board.old → B.rests board.new }
