@@ -1,5 +1,5 @@
 -- What is begun by the first plan may begin.
-use Rattle.std.proofs.Common.{◌≡◌, ℕ, ◌⊎◌, inj₁, inj₂, true, List, is_none, IfSome, None, Some, Option, refl, sym, subst}
+use Rattle.std.proofs.Common.{◌≡◌, ℕ, ◌⊎◌, inl, inr, true, List, is_none, IfSome, None, Some, Option, refl, sym, subst}
 use Rattle.std.proofs.lemmas.Option.{same_Some}
 use Rattle.sr_base.specs.Key.{KeyView}
 use Rattle.sr_base.specs.declared.place.Place.{Place}
@@ -30,12 +30,12 @@ use Rattle.sr_shadow.specs.declared.plan.Plan.TheVariants as plan
 module _ (shape : Shape) (es : List Entry) (key : KeyView) (what : Aim) (into : (p : Put) → MayEnter shape es p → MayTake shape es p what) where
   may_take : (pl : Plan) (p : Put) → first_plan shape es key ≡ pl → put_of key what pl ≡ Some p → MayTake shape es p p.aim
   may_take (plan.Slot place) p e q =
-      subst (λ z. MayTake shape es z z.aim) (same_Some (record { key = key; place = place; aim = what }) p q) (into (record { key = key; place = place; aim = what }) (inj₁ (slot_given shape es key place e)))
+      subst (λ z. MayTake shape es z z.aim) (same_Some (record { key = key; place = place; aim = what }) p q) (into (record { key = key; place = place; aim = what }) (inl (slot_given shape es key place e)))
   may_take (plan.Move other from to last) p e q =
       let g = move_given shape es key other from to last e in
       subst (λ z. MayTake shape es z z.aim) (same_Some (record { key = other; place = to; aim = aim.Move from key }) p q) (g.to_own, g.to_usable)
   may_take (plan.FullKey row) p e q =
-      subst (λ z. MayTake shape es z z.aim) (same_Some (record { key = key; place = Row row; aim = what }) p q) (into (record { key = key; place = Row row; aim = what }) (inj₂ (row, refl, row_given shape es key row e)))
+      subst (λ z. MayTake shape es z z.aim) (same_Some (record { key = key; place = Row row; aim = what }) p q) (into (record { key = key; place = Row row; aim = what }) (inr (row, refl, row_given shape es key row e)))
   may_take plan.NoRoom p e q = cc
 
 module _ (shape : Shape) (es : List Entry) (held : List HeldOpener) (d : DistinctKeys es) where

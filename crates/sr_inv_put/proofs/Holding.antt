@@ -1,5 +1,5 @@
 -- What the condition gives.
-use Rattle.std.proofs.Common.{◌≡◌, ℕ, ◌⊎◌, inj₁, inj₂, true, false, List, None, refl, sym, ◌∙◌, subst, true≢false}
+use Rattle.std.proofs.Common.{◌≡◌, ℕ, ◌⊎◌, inl, inr, true, false, List, None, refl, sym, ◌∙◌, subst, true≢false}
 use Rattle.sr_base.specs.declared.place.Place.TheVariants.{Row}
 use Rattle.sr_base.specs.declared.shape.Shape.{Shape}
 use Rattle.sr_hash.specs.Uses.{is_place_of}
@@ -20,16 +20,16 @@ use Rattle.sr_machine.specs.declared.put.Aim.TheVariants as aim
 
 module _ (shape : Shape) (es : List Entry) (held : List HeldOpener) (p : Put) where
   entered_own : MayEnter shape es p → is_place_of shape p.key p.place ≡ true
-  entered_own (inj₁ g) = g.own
-  entered_own (inj₂ (row, at, g)) = subst (λ z. is_place_of shape p.key z ≡ true) (sym at) g.own
+  entered_own (inl g) = g.own
+  entered_own (inr (row, at, g)) = subst (λ z. is_place_of shape p.key z ≡ true) (sym at) g.own
 
   entered_free : MayEnter shape es p → holder_of p.place es ≡ None
-  entered_free (inj₁ g) = g.free
-  entered_free (inj₂ (row, at, g)) = subst (λ z. holder_of z es ≡ None) (sym at) g.free
+  entered_free (inl g) = g.free
+  entered_free (inr (row, at, g)) = subst (λ z. holder_of z es ≡ None) (sym at) g.free
 
   entered_clear : MayEnter shape es p → IsClearPut shape es p
-  entered_clear (inj₁ g) slot none = g.clear
-  entered_clear (inj₂ (row, at, g)) slot none = absurd (true≢false (sym slot ∙ subst (λ z. is_slot z ≡ false) (sym at) refl))
+  entered_clear (inl g) = λ slot none. g.clear
+  entered_clear (inr (row, at, g)) = λ slot none. absurd (true≢false (sym slot ∙ subst (λ z. is_slot z ≡ false) (sym at) refl))
 
   own : (a : Aim) → MayTake shape es p a → is_place_of shape p.key p.place ≡ true
   own aim.Pending h = entered_own h
@@ -44,7 +44,7 @@ module _ (shape : Shape) (es : List Entry) (held : List HeldOpener) (p : Put) wh
   clear : (a : Aim) → AimHolds es held p a → MayTake shape es p a → IsClearPut shape es p
   clear aim.Pending a h = entered_clear h
   clear (aim.Held o) a h = entered_clear h
-  clear (aim.Move from planned) ((e, found, at), more) h slot none = absurd (true≢false (sym (registered_some p.key es e found) ∙ none))
+  clear (aim.Move from planned) ((e, found, at), from_slot, to_slot) h = λ slot none. absurd (true≢false (sym (registered_some p.key es e found) ∙ none))
 
   pub puts : MayPut shape es held p → PutHolds shape es held p × IsClearPut shape es p
   puts m = (record { own = own p.aim m.place; free = free p.aim m.place; aim = m.aim }, clear p.aim m.aim m.place)

@@ -1,6 +1,5 @@
 -- No check of a block answers that the capture ends.
-use Rattle.std.proofs.Common.{◌≡◌, ℕ, zero, suc, ◌+◌, ◌-◌, ◌==◌, nat_lt, Bool, true, false, cond, List, length, take, drop, Option, Some, None, Result, Ok, Err, ap, ◌∙◌}
-use Rattle.std.specs.Option.{unwrap_or}
+use Rattle.std.proofs.Common.{◌≡◌, ℕ, zero, suc, ◌+◌, ◌-◌, Bool, true, false, cond, List, take, drop, Option, Some, None, Result, Ok, Err, ap, ◌∙◌}
 use Rattle.sr_pcapng.specs.declared.endian.Endian.{Endian}
 use Rattle.sr_pcapng.specs.declared.front.Front.{Front}
 use Rattle.sr_pcapng.specs.declared.front.Front.TheVariants as front
@@ -10,9 +9,8 @@ use Rattle.sr_pcapng.specs.declared.option_head.OptionHead.TheVariants.{Last, Va
 use Rattle.sr_pcapng.specs.declared.packet_head.PacketHead.{PacketHead}
 use Rattle.sr_pcapng.specs.declared.stop.Stop.{Stop}
 use Rattle.sr_pcapng.specs.declared.stop.Stop.TheVariants.{End, Truncated, TooLong, Block, Magic, Major, TooMany}
-use Rattle.sr_pcapng.specs.Block.{Packet, Whole, last_fault, unless, closed, whole, section_with, section_block, with_interface, interface_with, interface_block, packet_with_head, packet_block, other_block, block_with, block_at}
-use Rattle.sr_pcapng.specs.Endian.{number}
-use Rattle.sr_pcapng.specs.Front.{SectionView, endian_of, order_of, front_sized, front_in, front_after, front_of, header_in, header_with, header_of, packet_sized, packet_with, packet_of, time_of}
+use Rattle.sr_pcapng.specs.Block.{Packet, last_fault, unless, closed, whole, section_with, section_block, interface_with, interface_block, packet_with_head, packet_block, other_block, block_with, block_at}
+use Rattle.sr_pcapng.specs.Front.{SectionView, endian_of, front_sized, front_in, front_after, front_of, header_in, header_with, header_of, packet_sized, packet_with, packet_of}
 use Rattle.sr_pcapng.specs.Options.{Walked, kept, option_of, option_sized, walk}
 
 pub record IsNoEnd {A : Type 0} (r : Result A Stop) : Type 0 where

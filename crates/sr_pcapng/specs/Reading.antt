@@ -1,5 +1,5 @@
 -- What reading from a source does. `left` says of bytes that they are still to be read.
-use Rattle.std.specs.Prelude.{◌≡◌, ◌⊎◌, ℕ, ◌≤◌, Bool, min, List, length, take, drop, Option, Some, None, Result, Ok, Err}
+use Rattle.std.specs.Prelude.{◌≡◌, ◌⊎◌, ℕ, Bool, min, List, length, take, drop, Option, Some, None, Result, Ok, Err}
 use Rattle.sr_pcapng.specs.declared.option_head.OptionHead.{OptionHead}
 use Rattle.sr_pcapng.specs.declared.option_head.OptionHead.TheVariants.{Last, Value}
 use Rattle.sr_pcapng.specs.declared.stop.Stop.{Stop}
@@ -10,11 +10,6 @@ use Rattle.sr_pcapng.specs.Options.{Walked, kept}
 abbrev pub Fills : Result ℕ Stop → ℕ → List ℕ → List ℕ → (List ℕ → Type 0) → Type 0
 Fills (Ok n) size xs buffer left = (n ≡ min size (length xs)) × (take n buffer ≡ take size xs) × left (drop size xs)
 Fills (Err why) size xs buffer left = Unit {0}
-
--- Some of these bytes are at the front of the buffer, and the others are left; none only where there is none.
-abbrev pub Copies : Result ℕ Stop → List ℕ → List ℕ → (List ℕ → Type 0) → Type 0
-Copies (Ok n) xs buffer left = (n ≤ length xs) × (take n buffer ≡ take n xs) × left (drop n xs) × (n ≡ 0 → length xs ≡ 0)
-Copies (Err why) xs buffer left = Unit {0}
 
 -- Some of these bytes were passed over; none only where there is none.
 abbrev pub Passes : Result ℕ Stop → List ℕ → (List ℕ → Type 0) → Type 0

@@ -121,9 +121,9 @@ fn read_packet<S: Source>(
     ensures faults { Counts (result ≡ Err ReadFault) (S.known source.old).faults (S.known source.new).faults }
 {
     let endian = section.endian();
-    let mut fields = [0; 20];
-    let n = ahead.fill(source, &mut fields, 20)?;
-    let head = section.packet(endian, offset, size, &fields[..n])?;
+    ahead.ready(source, 20)?;
+    let head = section.packet(endian, offset, size, ahead.front(20))?;
+    ahead.pass(20);
     let captured = head.captured as usize;
     if ahead.fill(source, packet, captured)? < captured {
         return Err(Stop::Truncated { offset });
@@ -171,11 +171,13 @@ fn close<S: Source>(
     ensures faults { Counts (result ≡ Err ReadFault) (S.known source.old).faults (S.known source.new).faults }
 {
     ahead.skip(source, more)?;
-    let mut last = [0; 4];
-    let n = ahead.fill(source, &mut last, 4)?;
-    match last_fault(endian, offset, size, &last[..n]) {
+    ahead.ready(source, 4)?;
+    match last_fault(endian, offset, size, ahead.front(4)) {
         Some(why) => Err(why),
-        None => Ok(()),
+        None => {
+            ahead.pass(4);
+            Ok(())
+        }
     }
 }
 

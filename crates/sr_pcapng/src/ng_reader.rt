@@ -56,7 +56,7 @@ impl NgReader {
     /// A reader through this window, in which nothing is used yet. It reads nothing. The room for a packet is made here, and no call after this
     /// one needs memory.
     pub fn begin(alloc: Global, window: Window) -> Result<NgReader, AllocError>
-        requires { length window.used < window.room }
+        requires { length window.used + 262144 ≤ window.room }
         ensures { IfOk result (λ r. r ≡ record { place = front_place; bytes = []; window = window; ended = None }) }
     {
         Ok(NgReader {

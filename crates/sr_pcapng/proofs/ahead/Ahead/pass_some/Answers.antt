@@ -2,7 +2,7 @@ use Rattle.std.proofs.Common.{◌≡◌, ◌≤◌, Ok, length, ap, sym, subst, 
 use Rattle.sr_io.specs.Window.{WindowView, Pending}
 use Rattle.sr_pcapng.specs.Reading.{Passes}
 use Rattle.sr_pcapng.proofs.Filling.{passes}
-use Rattle.sr_pcapng.proofs.ahead.Ahead.pass.Goals as goal
+use Rattle.sr_pcapng.proofs.ahead.Ahead.pass_some.Goals as goal
 
 pub returns-clause-bytes : goal.returns-clause-bytes
 returns-clause-bytes g c = rw (← c.self.view_is) (λ xs p.
