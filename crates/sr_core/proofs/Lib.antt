@@ -1,6 +1,6 @@
 mod FirstPools
 mod Places
 mod Rooms
-mod Showing
+pub mod Showing
 mod Stepped
 mod Views

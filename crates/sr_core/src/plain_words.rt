@@ -124,6 +124,14 @@ impl PlainWords {
         }
     }
 
+    /// The words, in the order of the layout.
+    pub fn list(&self) -> &[u64]
+        ensures words { result.now ≡ self.now.words }
+        ensures length { length result.now ≡ words_of self.now.layout }
+    {
+        self.words.as_slice()
+    }
+
     /// The word of a name.
     pub fn word(&self, name: Name) -> u64
         requires { HasWord self.now.layout (word_name name) }

@@ -1,0 +1,127 @@
+-- To split a seat and to join two keeps the rule, and a look changes nothing.
+use Rattle.std.proofs.Common.{◌≡◌, ◌≢◌, ◌∙◌, ℕ, ◌+◌, ◌≤◌, List, [], ◌∷◌, ◌++◌, length, set, slice_index, Some, refl, sym, ap, subst, ⊎_elim, arith}
+use Rattle.std.proofs.lemmas.List.{set-get_or}
+use Rattle.atomic_table.proofs.Lists.{at_set, at_snoc, set_again}
+use Rattle.atomic_table.specs.Table.{Allows, Joins, Me, Splits, State, keeps}
+use Rattle.sr_machine.specs.Config.{Config}
+use Rattle.sr_machine.specs.Core.{Core}
+use Rattle.sr_machine.specs.declared.actor.Actor.{Actor}
+use Rattle.sr_machine.specs.declared.view.View.{View}
+use Rattle.sr_words.proofs.Claims.{claimed_more, claimed_set, shown_both, times_both}
+use Rattle.sr_words.proofs.Follows.{Follows, follows_self, follows_told}
+use Rattle.sr_words.proofs.Stepping.{shown_seat}
+use Rattle.sr_words.specs.Hearing.{IsGood, told}
+use Rattle.sr_words.specs.Rule.{Ruled}
+use Rattle.sr_words.specs.Seats.{AllShown, actor_of, claimed, only_second, seated, times_in, together, without_second}
+use Rattle.sr_words.specs.Steps.{IsShown, Looks}
+use Rattle.sr_words.specs.declared.heard.Heard.{Heard}
+use Rattle.sr_words.specs.declared.seated.Seated.{Seated}
+use lib.ListN.{get_elem?}
+use mathlib.Core.Option.{some}
+
+-- other seats over the same words and state
+reseated : (k : Config) (t : State (Unit {0}) Seated) (r : Ruled k t) (seats : List Seated)
+    → ((id : ℕ) (v : Seated) → get_elem? seats id ≡ some v → AllShown r.state v.actors)
+    → ((a : Actor) → claimed a seats ≡ claimed a t.views)
+    → Ruled k (record { words = t.words; homes = t.homes; views = seats })
+reseated k t r seats shown same = record {
+  fitted = r.fitted;
+  state = r.state;
+  reached = r.reached;
+  wide = r.wide;
+  words = r.words;
+  shown = shown;
+  apart = λ a. subst (λ (n : ℕ). n ≤ 1) (sym (same a)) (r.apart a);
+}
+
+-- ---- splitting
+
+times_split : (a : Actor) (xs : List View) → times_in a (without_second xs) + times_in a (only_second xs) ≡ times_in a xs
+times_split a [] = refl
+times_split a (x ∷ []) = omega arith
+times_split a (x ∷ y ∷ rest) = omega arith
+
+shown_split : (s : Core) (xs : List View) → AllShown s xs → AllShown s (without_second xs) × AllShown s (only_second xs)
+shown_split s [] h = (tt, tt)
+shown_split s (x ∷ []) h = (h, tt)
+shown_split s (x ∷ y ∷ rest) h = ((h.0, h.1.1), (h.1.0, tt))
+
+pub splits : (k : Config) (id : ℕ) (v : Seated)
+    → Splits (Ruled k) id v (seated (without_second v.actors)) (seated (only_second v.actors))
+splits k id v t r at =
+    let left : Seated = seated (without_second v.actors) in
+    let right : Seated = seated (only_second v.actors) in
+    let both = shown_split r.state v.actors (r.shown id v at) in
+    reseated k t r (set t.views id left ++ right ∷ [])
+    (λ j w e. ⊎_elim
+    (λ f. ⊎_elim (λ p. subst (λ (u : Seated). AllShown r.state u.actors) p.1 both.0) (λ p. r.shown j w p.1)
+    (at_set t.views id j left w f))
+    (λ f. subst (λ (u : Seated). AllShown r.state u.actors) f both.1)
+    (at_snoc (set t.views id left) right w j e))
+    (λ a.
+    let more = claimed_more a (set t.views id left) right in
+    let less = claimed_set a t.views id v left at in
+    let split : times_in a (without_second v.actors) + times_in a (only_second v.actors) ≡ times_in a v.actors = times_split a v.actors in
+    omega arith)
+
+-- ---- joining
+
+pub joins : (k : Config) (id other : ℕ) (v w : Seated)
+    → Joins (Ruled k) id v other w (together v w) (seated [])
+joins k id other v w t r at apart there =
+    let both : Seated = together v w in
+    let own : AllShown r.state v.actors = r.shown id v at in
+    let others : AllShown r.state w.actors =
+    ⊎_elim (λ p. absurd (apart p.0)) (λ p. r.shown other w p.1) (at_set t.views id other both w there) in
+    let all : AllShown r.state both.actors = shown_both r.state v.actors w.actors own others in
+    reseated k t r (set (set t.views id both) other (seated []))
+    (λ j u e. ⊎_elim (λ p. subst (λ (x : Seated). AllShown r.state x.actors) p.1 tt)
+    (λ p. ⊎_elim (λ q. subst (λ (x : Seated). AllShown r.state x.actors) q.1 all) (λ q. r.shown j u q.1)
+    (at_set t.views id j both u p.1))
+    (at_set (set t.views id both) other j (seated []) u e))
+    (λ a.
+    let one = claimed_set a t.views id v both at in
+    let two = claimed_set a (set t.views id both) other w (seated []) there in
+    let sum : times_in a (v.actors ++ w.actors) ≡ times_in a v.actors + times_in a w.actors = times_both a v.actors w.actors in
+    omega arith)
+
+-- ---- looking
+
+pub looks : (k : Config) (h : Heard) (slots id word : ℕ) (v : Seated) → IsGood h
+    → Allows (Ruled k) slots id (v, []) word (λ n. n) (λ n me. Looks k h v me.0 × (me.1 ≡ []))
+looks k h slots id word v good t r wide at below =
+    let words : set t.words word (slice_index t.words word) ≡ t.words = set-get_or t.words word 0 in
+    let views : set t.views id v ≡ t.views = set_again t.views id v at in (
+      v,
+      keeps,
+      tt,
+      subst (λ (l : List ℕ). Ruled k (record { words = l; homes = t.homes; views = set t.views id v })) (sym words)
+          (subst (λ (l : List Seated). Ruled k (record { words = t.words; homes = t.homes; views = l })) (sym views) r),
+      (
+        (
+          refl,
+          λ x y rest is heard.
+              let shown : AllShown r.state (x ∷ rest) = subst (AllShown r.state) is (r.shown id v at) in
+              let f : Follows k r.state (actor_of x) y r.state.words =
+              follows_told k r.state h (actor_of x) x y r.state.words good (follows_self k r.state x r.reached shown.0) heard in
+              record {
+                fitted = r.fitted;
+                state = f.state;
+                reached = f.reached;
+                shown = shown_seat k t r id v x rest at is y r.state.words f;
+              },
+        ),
+        refl,
+      ),
+    )
+
+-- in a caller's terms
+pub look_may : (made_for conf : Config) (h heard : Heard) (slots id word : ℕ) (me : Me (Unit {0}) Seated) → IsGood h → made_for ≡ conf
+    → h ≡ heard → me.1 ≡ []
+    → Allows (Ruled made_for) slots id me word (λ n. n) (λ n w. Looks conf heard me.0 w.0 × (w.1 ≡ me.1))
+look_may made_for conf h heard slots id word me good c t free =
+    let whole : (me.0, []) ≡ me = ap (λ (r : List (ℕ × Unit {0})). (me.0, r)) (sym free) in
+    subst (λ (k : Config). Allows (Ruled made_for) slots id me word (λ n. n) (λ n w. Looks k heard me.0 w.0 × (w.1 ≡ me.1))) c
+    (subst (λ (j : Heard). Allows (Ruled made_for) slots id me word (λ n. n) (λ n w. Looks made_for j me.0 w.0 × (w.1 ≡ me.1))) t
+    (subst (λ (m : Me (Unit {0}) Seated). Allows (Ruled made_for) slots id m word (λ n. n) (λ n w. Looks made_for h m.0 w.0 × (w.1 ≡ m.1))) whole
+    (looks made_for h slots id word me.0 good)))

@@ -1,0 +1,6 @@
+use Rattle.sr_words.proofs.Hears.{hears_refusal}
+use Rattle.sr_words.proofs.word_board.WordBoardBoard.refuse.Goals as goal
+
+pub returns-clause-fits : goal.returns-clause-fits
+returns-clause-fits c =
+    hears_refusal c.args.self.now.words.now.key c.args.self.now.seat.me.0 c.args.self.now.heard c.refuse.new.self c.refuse.ensures

@@ -1,0 +1,45 @@
+-- What a seat's step is, and which views a board fits.
+use Rattle.std.specs.Prelude.{◌≡◌, ℕ, List, ◌∷◌, Some}
+use Rattle.sr_inv_facts.specs.Fitted.{IsFitted}
+use Rattle.sr_inv_final.specs.Reached.{IsReached}
+use Rattle.sr_machine.specs.Config.{Config}
+use Rattle.sr_machine.specs.Core.{Core, view_after, view_op}
+use Rattle.sr_machine.specs.Ops.{op_answer, op_name}
+use Rattle.sr_machine.specs.declared.op.Op.{Op}
+use Rattle.sr_machine.specs.declared.view.View.{View}
+use Rattle.sr_words.specs.Hearing.{told}
+use Rattle.sr_words.specs.Seats.{AllShown}
+use Rattle.sr_words.specs.declared.heard.Heard.{Heard}
+use Rattle.sr_words.specs.declared.seated.Seated.{Seated}
+
+-- The step of the first of these views was made in a state that events lead to, which shows them all, and answered what its words tell.
+pub record IsStepFrom (k : Config) (views : List View) (o : Op) (answer : ℕ) : Type 0 where
+  pub fitted : IsFitted k
+  pub state : Core
+  pub reached : IsReached k state
+  pub shown : AllShown state views
+  pub answers : answer ≡ op_answer o (state.words (op_name o))
+
+-- The seat's first actor, who was told this before, has made its next step, and knows what it knows after it.
+abbrev pub Makes : Config → Heard → Seated → ℕ → Seated → Type 0
+Makes k h old answer new =
+    (x y : View) (rest : List View) (o : Op) → old.actors ≡ x ∷ rest → told h k x ≡ Some y → view_op k y ≡ Some o
+    → (new.actors ≡ view_after k y answer ∷ rest) × IsStepFrom k (y ∷ rest) o answer
+
+-- the view of a seat's first actor, who was told this
+abbrev pub FitsSeat : Config → Seated → Heard → Config → View → Type 0
+FitsSeat made_for seat h k y =
+    (k ≡ made_for) × (x : View) × (rest : List View) × (seat.actors ≡ x ∷ rest) × (told h k x ≡ Some y)
+
+-- Events lead to a state in which each of these actors knows this.
+pub record IsShown (k : Config) (views : List View) : Type 0 where
+  pub fitted : IsFitted k
+  pub state : Core
+  pub reached : IsReached k state
+  pub shown : AllShown state views
+
+-- A look changes nothing: the seat's actors, the first of whom was told this, know this in a state that events lead to.
+abbrev pub Looks : Config → Heard → Seated → Seated → Type 0
+Looks k h old new =
+    (new ≡ old)
+    × ((x y : View) (rest : List View) → old.actors ≡ x ∷ rest → told h k x ≡ Some y → IsShown k (y ∷ rest))

@@ -1,0 +1,26 @@
+//! The shared words for threads: a table of words that change in single atomic steps, with one seat an actor, and the rule that ties them
+//! to the machine of `sr_machine`.
+//!
+//! | part | source files | `specs/` |
+//! |---|---|---|
+//! | What a seat knows | `seated` | `Seats` |
+//! | What a board was told since its last step | `heard` | `Hearing` |
+//! | The rule of the table | `rule` | `Rule` |
+//! | Single steps, and the board that makes them | `steps`, `word_board` | `Steps`, `Besides` |
+//! | The words of a machine, and all its boards | `switch`, `boards` | `Boarding` |
+#![tactic(auto)]
+
+mod boards;
+mod heard;
+mod rule;
+mod seated;
+mod steps;
+mod switch;
+mod word_board;
+
+pub use boards::Boards;
+pub use heard::Heard;
+pub use rule::{Knowing, Looking, Making, Second, Telling, Together, Words};
+pub use seated::Seated;
+pub use switch::{First, Switch};
+pub use word_board::WordBoard;
