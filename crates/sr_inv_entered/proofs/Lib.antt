@@ -1,4 +1,4 @@
-mod Ending
+pub mod Ending
 pub mod Lawful
 mod Playing
 mod Rounding

@@ -8,12 +8,12 @@ use Rattle.sr_base.specs.declared.vip_word.Phase.{Phase}
 use Rattle.sr_base.specs.declared.vip_word.Phase.TheVariants.{Steady, Recording, Holding, Transit}
 use Rattle.sr_base.specs.declared.vip_word.VipWord.{VipWord}
 use Rattle.sr_inv_rest.specs.Laws.{NoLook, OnLook}
-use Rattle.sr_machine.specs.Begins.{Begins, looks}
+use Rattle.sr_machine.specs.Begins.{Begins, NoAct, looks}
 use Rattle.sr_machine.specs.Config.{Config}
 use Rattle.sr_machine.specs.Draws.{cleared_job, phase_job}
 use Rattle.sr_machine.specs.Goes.{Goes, stays_free, taken_down, given, comes, reserved, placed, cleared, retired, phase_stored, reserve_stored, judged_live, judged_withdrawn, emptied, pass_last, drain_last, look_next, look_last, look_took}
 use Rattle.sr_machine.specs.Jobs.{job_op}
-use Rattle.sr_machine.specs.Starting.{Start, opener_of}
+use Rattle.sr_machine.specs.Starting.{Start, opener_of, with_job}
 use Rattle.sr_machine.specs.Turning.{draw_act, rest_of, store_act, turn_at}
 use Rattle.sr_machine.specs.Waiting.{all_passed, has_next, is_under_way, live_job, passed_phase, waited_job, waited_phase}
 use Rattle.sr_machine.specs.declared.act.Act.{Act}
@@ -140,15 +140,15 @@ module _ (k : Config) (c : ControllerView) (x : ℕ) where
   -- ---- a step that ends it
 
   -- the last look found its cell empty
-  abbrev pub RestsAt : Job → Type 0
-  RestsAt (job.Look pipe) = (x ≡ 0) × (has_next k.layout pipe ≡ false)
-  RestsAt j = ⊥
+  abbrev pub RestsAt : Turn → Job → Type 0
+  RestsAt a (job.Look pipe) = (x ≡ 0) × (has_next k.layout pipe ≡ false) × (a ≡ rest_of c)
+  RestsAt a j = ⊥
 
   did_no_stop : (o : Option Act) (a : Turn) → option_map Did o ≡ Some a → Stops a → ⊥
   did_no_stop None a e h = absurd (cc e)
   did_no_stop (Some b) a e h = subst Stops (sym (same_Some (Did b) a e)) h
 
-  pub stops : (j : Job) (a : Turn) → turn_at k c j x ≡ Some a → Stops a → RestsAt j
+  pub stops : (j : Job) (a : Turn) → turn_at k c j x ≡ Some a → Stops a → RestsAt a j
   stops job.Free a e h = absurd (cc e)
   stops (job.Draw d) a e h = did_no_stop (draw_act d) a e h
   stops (job.Store s) a e h = did_no_stop (store_act s) a e h
@@ -161,9 +161,10 @@ module _ (k : Config) (c : ControllerView) (x : ℕ) where
   stops (job.Look pipe) a e h = at (x == 0) (has_next k.layout pipe) refl refl e
     where
       at : (b m : Bool) → (x == 0) ≡ b → has_next k.layout pipe ≡ m
-          → (if b then (if m then None else Some (rest_of c)) else Some (Did act.Took)) ≡ Some a → (x ≡ 0) × (has_next k.layout pipe ≡ false)
+          → (if b then (if m then None else Some (rest_of c)) else Some (Did act.Took)) ≡ Some a
+          → (x ≡ 0) × (has_next k.layout pipe ≡ false) × (a ≡ rest_of c)
       at true true p q r = absurd (cc r)
-      at true false p q r = (grind (arith, nat_tests), q)
+      at true false p q r = (grind (arith, nat_tests), q, sym (same_Some (rest_of c) a r))
       at false m p q r = absurd (subst Stops (sym (same_Some _ a r)) h)
   stops (job.Hit from ms key place taken) a e h = subst Stops (sym (same_Some _ a e)) h
 
@@ -185,13 +186,13 @@ module _ (k : Config) (c : ControllerView) (x : ℕ) where
 -- ---- a turn that begins
 
 module _ (k : Config) (c : ControllerView) where
-  none_held : (held : List HeldOpener) → opener_of k c held ≡ None → held ≡ []
+  pub none_held : (held : List HeldOpener) → opener_of k c held ≡ None → held ≡ []
   none_held [] e = refl
   none_held (h ∷ rest) e = absurd (cc e)
 
-  -- a look begins at the first ring, and where no opener is held
-  pub first_look : (P : ℕ → Type 0) → (c.held ≡ [] → P 0) → (s : Start) → Begins k c s → OnLook s.job P
-  first_look P h s (looks a) = h (none_held c.held a.opener)
+  -- a look begins at the first ring, and where no act applies
+  pub first_look : (P : Start → ℕ → Type 0) → (NoAct k c → P (with_job c (job.Look 0)) 0) → (s : Start) → Begins k c s → OnLook s.job (P s)
+  first_look P h s (looks a) = h a
   first_look P h s b = tt
 
   -- what has a step is set

@@ -2,8 +2,8 @@
 use Rattle.std.proofs.Common.{◌≡◌, ℕ, zero, suc, ◌==◌, Bool, true, false, List, [], ◌∷◌, slice_get, Option, Some, None, option_and_then, option_map, unwrap_or, refl, sym, ap, subst, if◌then◌else◌}
 use Rattle.std.proofs.lemmas.Option.{same_Some}
 use Rattle.sr_base.specs.declared.packet.Packet.{Packet}
-use Rattle.sr_inv_rest.proofs.Looks.{Stops}
-use Rattle.sr_inv_rest.proofs.Turns.{EndsSo, IsEmptied, turn_so}
+use Rattle.sr_inv_rest.proofs.Looks.{Stops, none_held}
+use Rattle.sr_inv_rest.proofs.Turns.{EndsSo, IsDone, turn_so}
 use Rattle.sr_inv_rest.specs.Laws.{ActsEndAtRest, AtLeisure, PicksEndAtRest, SettledIsAtRest}
 use Rattle.sr_inv_final.proofs.Resting.{rests}
 use Rattle.sr_inv_runs.proofs.Picked.{acts_idle, acts_keep}
@@ -11,7 +11,7 @@ use Rattle.sr_machine.specs.Config.{Config}
 use Rattle.sr_machine.specs.Core.{Core, enters, opening, step_event, stepped, told}
 use Rattle.sr_machine.specs.Opening.{opening_controller}
 use Rattle.sr_machine.specs.Pipe.{entered, pipe_op}
-use Rattle.sr_machine.specs.Settling.{Follows, More, Over, OrRefusal, awaited, ending_of, follows, on_or, refused, settled_in}
+use Rattle.sr_machine.specs.Settling.{Follows, More, Over, OrRefusal, awaited, ending_of, follows, on_or, refused, settled_in, Settles}
 use Rattle.sr_machine.specs.Telling.{is_no_earlier, may_refuse}
 use Rattle.sr_machine.specs.Turning.{most_steps}
 use Rattle.sr_machine.specs.declared.actor.Actor.TheVariants as actor
@@ -25,7 +25,7 @@ use Rattle.sr_machine.specs.declared.view.View.TheVariants.{OfPipe}
 use Rattle.sr_picks.proofs.Acts.{run_acts}
 use Rattle.sr_picks.proofs.Turns.{turns_as}
 use Rattle.sr_picks.specs.Play.{Play, act_of, acted, controller_picked, pipe_idle, pipe_picked, pipes_of, share_of, stepped_by}
-use Rattle.sr_picks.specs.Run.{RoundsByActs, round_begun}
+use Rattle.sr_picks.specs.Run.{RoundsByActs, round_begun, RunsByActs}
 use Rattle.sr_picks.specs.Turn.{after, turn_of}
 use Rattle.sr_rounds.specs.declared.round.Round.{Round}
 use Rattle.sr_rounds.specs.declared.timed.Timed.{Timed}
@@ -119,29 +119,41 @@ refused_leaves s u More h e = subst AtLeisure (same_Some s u e) h
 refused_leaves s u Over h e = absurd (cc e)
 refused_leaves s u OrRefusal h e = others_leave s u h Refuse tt e
 
+-- how the turns end: the last one found nothing to do, and nothing can be refused
+pub record EndsDone (r : Settled) (t : Core) : Type 0 where
+  pub answer : Turn
+  pub done : IsDone t answer
+  pub over : refused t (follows answer) ≡ None
+  pub how : ending_of (awaited t.controller) ≡ r
+
 settled_by : (n : ℕ) (s t : Core) (r : Settled) (a : Turn) (o : Option Core) → (turn_of s).answer ≡ Some a
     → refused (turn_of s).state (follows a) ≡ o
-    → ((u : Core) → AtLeisure u → settled_in n u ≡ Some (r, t) → IsEmptied t) → AtLeisure s
-    → on_or (turn_of s).state (settled_in n) o ≡ Some (r, t) → IsEmptied t
+    → ((u : Core) → AtLeisure u → settled_in n u ≡ Some (r, t) → EndsDone r t) → AtLeisure s
+    → on_or (turn_of s).state (settled_in n) o ≡ Some (r, t) → EndsDone r t
 settled_by n s t r a (Some u) is told next h e = next u (refused_leaves (turn_of s).state u (follows a) (turn_so s h).0 told) e
 settled_by n s t r a None is told next h e =
     let v = (turn_of s).state in
     let ends : EndsSo v (Some a) = subst (EndsSo v) is (turn_so s h).1 in
-    subst IsEmptied (second_same (ending_of (awaited v.controller)) r v t e) (ends (over_stops v a told))
+    subst (EndsDone r) (second_same (ending_of (awaited v.controller)) r v t e) (record {
+      answer = a;
+      done = ends (over_stops v a told);
+      over = told;
+      how = ap (λ p. p.0) (same_Some (ending_of (awaited v.controller), v) (r, t) e);
+    })
 
 -- a turn as it came out is followed by so many more
 abbrev followed : ℕ → Option (Turn × Core) → Option (Settled × Core)
 followed n o = option_and_then (λ (p : Turn × Core). on_or p.1 (settled_in n) (refused p.1 (follows p.0))) o
 
-settled_empties : (n : ℕ) (s t : Core) (r : Settled) → AtLeisure s → settled_in n s ≡ Some (r, t) → IsEmptied t
-settled_empties zero s t r h e = absurd (cc e)
-settled_empties (suc n) s t r h e =
+settled_done : (n : ℕ) (s t : Core) (r : Settled) → AtLeisure s → settled_in n s ≡ Some (r, t) → EndsDone r t
+settled_done zero s t r h e = absurd (cc e)
+settled_done (suc n) s t r h e =
     let same = turns_as (most_steps s.config.layout) s in
-    at (turn_of s).answer refl (subst (λ o. followed n o ≡ Some (r, t)) (sym same) e) (λ u. settled_empties n u t r)
+    at (turn_of s).answer refl (subst (λ o. followed n o ≡ Some (r, t)) (sym same) e) (λ u. settled_done n u t r)
   where
     at : (o : Option Turn) → (turn_of s).answer ≡ o → followed n (option_map (λ a. (a, (turn_of s).state)) o) ≡ Some (r, t)
-        → ((u : Core) → AtLeisure u → settled_in n u ≡ Some (r, t) → IsEmptied t)
-        → IsEmptied t
+        → ((u : Core) → AtLeisure u → settled_in n u ≡ Some (r, t) → EndsDone r t)
+        → EndsDone r t
     at None is q next = absurd (cc q)
     at (Some a) is q next = settled_by n s t r a (refused (turn_of s).state (follows a)) is refl next h q
 
@@ -155,12 +167,20 @@ opening_leisure k = tt
 -- Where turns end, of which the first began with no look in progress, and no packet is in hand, nothing is under way.
 pub settled_rests : SettledIsAtRest
 settled_rests s t r free h i idle =
-    let e : IsEmptied t = settled_empties h.0 s t r free h.1 in
-    rests t i idle e.0 e.1
+    let e : EndsDone r t = settled_done h.0 s t r free h.1 in
+    rests t i idle e.done.empty (none_held t.config t.controller t.controller.held e.done.none.opener)
+
+-- and they end as they say
+pub settles_done : (s t : Core) (r : Settled) → AtLeisure s → Settles s r t → EndsDone r t
+settles_done s t r free h = settled_done h.0 s t r free h.1
+
+-- where the turns after the last round begin, no look is in progress
+pub acts_leisure : (k : Config) (packets : List Timed) (r : Settled) (t : Core) → (h : RunsByActs k packets r t) → AtLeisure h.state
+acts_leisure k packets r t h = rounds_leave packets _ (opening k) h.state (opening_leisure k) h.rounds
 
 pub acts_rest : ActsEndAtRest
 acts_rest k packets r t f a h =
-    settled_rests h.state t r (rounds_leave packets _ (opening k) h.state (opening_leisure k) h.rounds) h.settles
+    settled_rests h.state t r (acts_leisure k packets r t h) h.settles
     (acts_keep k packets r t f a h).0 (acts_idle k packets r t f a h)
 
 pub picks_rest : PicksEndAtRest

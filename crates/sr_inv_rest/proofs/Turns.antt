@@ -1,7 +1,7 @@
 -- A turn that found nothing to do has looked at every ring in order, with nobody between, and found each empty; and no opener is held.
 -- For a look that has begun goes on to the last ring or takes a report: an empty cell leaves the bounds as they are, and a turn has
 -- steps for every ring.
-use Rattle.std.proofs.Common.{◌≡◌, ℕ, zero, suc, ◌+◌, ◌<◌, ◌≤◌, ◌⊎◌, inl, inr, ◌^◌, ◌&&◌, nat_lt, Bool, true, false, [], Option, Some, None, refl, sym, ap, ◌∙◌, subst, arith, if◌then◌else◌}
+use Rattle.std.proofs.Common.{◌≡◌, ℕ, zero, suc, ◌+◌, ◌<◌, ◌≤◌, ◌⊎◌, inl, inr, ◌^◌, ◌&&◌, ◌==◌, nat_lt, find, Bool, true, false, [], Option, Some, None, refl, sym, ap, ◌∙◌, subst, arith, if◌then◌else◌}
 use Rattle.std.proofs.lemmas.Bool.{cases_lt}
 use Rattle.std.proofs.lemmas.Bool.Decides.{nat_tests}
 use Rattle.std.proofs.lemmas.Option.{same_Some}
@@ -14,14 +14,18 @@ use Rattle.sr_machine.specs.Config.{Config}
 use Rattle.sr_machine.specs.Controller.{controller_op}
 use Rattle.sr_machine.specs.Core.{Core}
 use Rattle.sr_machine.specs.Deciding.{in_bounds, ring_count, words_taken}
-use Rattle.sr_machine.specs.Jobs.{job_next, job_op}
+use Rattle.sr_machine.specs.Jobs.{job_after, job_next, job_op}
 use Rattle.sr_machine.specs.Keeping.{begun_core, job_core}
 use Rattle.sr_machine.specs.Names.{rewritten, same_name}
 use Rattle.sr_machine.specs.Ops.{op_answer, op_name, op_words}
 use Rattle.sr_machine.specs.Stages.{ring_cell}
-use Rattle.sr_machine.specs.Starting.{begun, first_act, start_by}
+use Rattle.sr_machine.specs.Starting.{begun, first_act, start_by, with_start}
 use Rattle.sr_machine.specs.Taking.{taking, untaken}
-use Rattle.sr_machine.specs.Turning.{controlled, most_steps, turn_of_op}
+use Rattle.sr_machine.specs.Turning.{controlled, most_steps, rest_by, rest_of, turn_of_op}
+use Rattle.sr_machine.specs.Telling.{full_change}
+use Rattle.sr_machine.specs.Waiting.{has_next}
+use Rattle.sr_machine.specs.Begins.{NoAct}
+use Rattle.sr_shadow.specs.Entry.{is_pending}
 use Rattle.sr_machine.specs.declared.controller_view.ControllerView.{ControllerView}
 use Rattle.sr_machine.specs.declared.job.Job.{Job}
 use Rattle.sr_machine.specs.declared.job.Job.TheVariants as job
@@ -37,13 +41,17 @@ use Rattle.sr_picks.specs.Turn.{ended_or, turn_in, turn_of, turn_on}
 abbrev next_cell : Core → ℕ → Name
 next_cell s pipe = ring_cell s.config.layout pipe (ring_count s.controller.rings pipe).words
 
+-- the controller without its job
+abbrev pub at_leisure : ControllerView → ControllerView
+at_leisure c = record c { job = job.Free }
+
 -- A look has come to this pipe: there are steps for the rings that are left, the bounds aren't reached, the rings before are empty, and
--- no opener is held.
+-- but for the look the controller has no act to begin.
 record Looked (s : Core) (n pipe : ℕ) : Type 0 where
   left : s.config.layout.shape.pipes ≤ n + pipe
   bounds : in_bounds s.controller ≡ true
   empty : (p : ℕ) → p < pipe → s.words (next_cell s p) ≡ 0
-  none : s.controller.held ≡ []
+  none : NoAct s.config (at_leisure s.controller)
 
 -- in the midst of a turn with so many steps left, where this job is set
 abbrev Midst : Core → ℕ → Job → Type 0
@@ -51,27 +59,37 @@ Midst s n job.Free = s.config.layout.shape.pipes ≤ n
 Midst s n (job.Look pipe) = (pipe < s.config.layout.shape.pipes) × Looked s n pipe
 Midst s n j = Unit {0}
 
--- all rings are empty
-abbrev pub IsEmptied : Core → Type 0
-IsEmptied s = AreEmpty s × (s.controller.held ≡ [])
+-- a turn with this answer found nothing to do: all rings are empty, and the controller has no job and no act to begin
+pub record IsDone (s : Core) (a : Turn) : Type 0 where
+  pub empty : AreEmpty s
+  pub free : s.controller.job ≡ job.Free
+  pub none : NoAct s.config s.controller
+  pub rest : a ≡ rest_of s.controller
 
 -- at the end of a turn with this answer
 abbrev pub EndsSo : Core → Option Turn → Type 0
 EndsSo s None = Unit {0}
-EndsSo s (Some a) = Stops a → IsEmptied s
+EndsSo s (Some a) = Stops a → IsDone s a
 
 abbrev End : Core → Option Turn → Type 0
 End s a = NoLook s.controller.job × EndsSo s a
 
 -- where a turn begins a look, it does so at the first ring
-begun_looked : (s : Core) (n : ℕ) (j : Job) → in_bounds s.controller ≡ true → Midst s n j
-    → OnLook (start_by s.config s.controller j).job (Looked (begun_core s) n)
-begun_looked s n job.Free bounds h =
-    first_look s.config s.controller (Looked (begun_core s) n)
-    (λ none. record { left = omega (arith, h); bounds = bounds; empty = λ p b. absurd (omega arith); none = none })
+begun_looked : (s : Core) (n : ℕ) (j : Job) → s.controller.job ≡ j → in_bounds s.controller ≡ true → Midst s n j
+    → OnLook (start_by s.config s.controller j).job
+    (Looked (record s { controller = with_start s.controller (start_by s.config s.controller j) }) n)
+begun_looked s n job.Free e bounds h =
+    first_look s.config s.controller (λ t pipe. Looked (record s { controller = with_start s.controller t }) n pipe)
+    (λ none. record {
+      left = omega (arith, h);
+      bounds = bounds;
+      empty = λ p b. absurd (omega arith);
+      none = subst (λ j. NoAct s.config (record s.controller { job = j })) e none;
+    })
     (first_act s.config s.controller) (first_begins s.config s.controller)
-begun_looked s n (job.Look pipe) bounds h = record { left = h.1.left; bounds = bounds; empty = h.1.empty; none = h.1.none }
-begun_looked s n j bounds h = tt
+begun_looked s n (job.Look pipe) e bounds h =
+    record { left = h.1.left; bounds = bounds; empty = h.1.empty; none = h.1.none }
+begun_looked s n j e bounds h = tt
 
 -- ---- a look that finds a ring empty
 
@@ -104,6 +122,11 @@ module _ (u : Core) (n pipe : ℕ) (h : Looked u (suc n) pipe) (o : Op) (step : 
   cell_empty p (inl b) c = h.empty p b
   cell_empty p (inr b) c = let here : pipe ≡ p = omega arith in subst (λ m. u.words (next_cell u m) ≡ 0) here was_empty
 
+  -- what is waited for is as before
+  same_rest : rest_of (job_core u (job.Look pipe) o).controller ≡ rest_of u.controller
+  same_rest =
+      ap (λ t. rest_by (find is_pending t.book.entries) (full_change u.controller.clock u.controller.numbers u.controller.gives)) (sym untaken_is)
+
   look_on : Looked (job_core u (job.Look pipe) o) n (pipe + 1)
   look_on = record {
     left = omega (arith, h.left);
@@ -111,7 +134,7 @@ module _ (u : Core) (n pipe : ℕ) (h : Looked u (suc n) pipe) (o : Op) (step : 
     empty = λ p b.
         subst (λ t. op_words u.words o (ring_cell u.config.layout p (ring_count t.rings p).words) ≡ 0) untaken_is
         (still_empty (next_cell u p) (cell_empty p (cases_lt p pipe) b));
-    none = subst (λ t. t.held ≡ []) untaken_is h.none;
+    none = subst (λ t. NoAct u.config (record u.controller { book = t.book; rings = t.rings; held = t.held; job = job.Free })) untaken_is h.none;
   }
 
 -- ---- a step
@@ -138,9 +161,14 @@ module _ (s : Core) (n : ℕ) (h : Midst s (suc n) s.controller.job) (o : Op) (q
 
   looked : (pipe : ℕ) → d.job ≡ job.Look pipe → answer ≡ 0 → Looked (controlled s o) n (pipe + 1)
   looked pipe was none =
-      let old = subst (λ j. OnLook j (Looked (begun_core s) (suc n))) was (begun_looked s (suc n) s.controller.job own.0 h) in
+      let old = subst (λ j. OnLook j (Looked (begun_core s) (suc n))) was (begun_looked s (suc n) s.controller.job refl own.0 h) in
       subst (λ j. Looked (job_core (begun_core s) j o) n (pipe + 1)) (sym was)
       (look_on (begun_core s) n pipe old o (ap (job_op s.config d) (sym was) ∙ own.1) none)
+
+  rested : (pipe : ℕ) → d.job ≡ job.Look pipe → answer ≡ 0 → rest_of (job_after s.config d (job.Look pipe) answer) ≡ rest_of d
+  rested pipe was none =
+      let old = subst (λ j. OnLook j (Looked (begun_core s) (suc n))) was (begun_looked s (suc n) s.controller.job refl own.0 h) in
+      same_rest (begun_core s) n pipe old o (ap (job_op s.config d) (sym was) ∙ own.1) none
 
   -- the turn goes on
   goes_midst : turn_of_op s o ≡ None → Midst (controlled s o) n (controlled s o).controller.job
@@ -162,8 +190,23 @@ module _ (s : Core) (n : ℕ) (h : Midst s (suc n) s.controller.job) (o : Op) (q
     λ stop. at d.job refl (stops s.config d answer d.job a e stop),
   )
     where
-      at : (j : Job) → d.job ≡ j → RestsAt s.config d answer j → IsEmptied (controlled s o)
-      at (job.Look pipe) was r = let all = looked pipe was r.0 in (λ p b. all.empty p (grind (arith, nat_tests, r.1, b)), all.none)
+      -- the last look leaves no job
+      look_over : (b m : Bool) (pipe : ℕ) → m ≡ false → (if b && m then job.Look (pipe + 1) else job.Free) ≡ job.Free
+      look_over true false pipe q = refl
+      look_over true true pipe q = cc
+      look_over false m pipe q = refl
+
+      at : (j : Job) → d.job ≡ j → RestsAt s.config d answer a j → IsDone (controlled s o) a
+      at (job.Look pipe) was r =
+          let all = looked pipe was r.0 in
+          let free : (controlled s o).controller.job ≡ job.Free =
+          ap (λ j. job_next s.config d j answer) was ∙ look_over (answer == 0) (has_next s.config.layout pipe) pipe r.1 in
+          record {
+            empty = λ p b. all.empty p (grind (arith, nat_tests, r.1, b));
+            free = free;
+            none = subst (λ j. NoAct s.config (record (controlled s o).controller { job = j })) (sym free) all.none;
+            rest = r.2 ∙ sym (ap (λ j. rest_of (job_after s.config d j answer)) was ∙ rested pipe was r.0);
+          }
       at j was r = absurd r
 
 -- ---- a turn
@@ -200,8 +243,8 @@ turn_ends : (n : ℕ) (s : Core) → Midst s n s.controller.job → End (turn_in
 turn_ends zero s h = (late s s.controller.job h, tt)
 turn_ends (suc n) s h = turn_on_ends s n h (turn_ends n) (controller_op s.config s.controller) refl
 
--- Where no look was in progress before a turn, none is after it; and if it found nothing to do, the rings are empty, and no opener is
--- held.
+-- Where no look was in progress before a turn, none is after it; and if it found nothing to do, the rings are empty, and the controller
+-- has nothing to begin.
 pub turn_so : (s : Core) → NoLook s.controller.job → NoLook (turn_of s).state.controller.job × EndsSo (turn_of s).state (turn_of s).answer
 turn_so s none = turn_ends (most_steps s.config.layout) s (at s.controller.job none)
   where
