@@ -23,6 +23,14 @@ pub record SectionView : Type 0 where
 abbrev pub endian_of : SectionView → Endian
 endian_of section = unwrap_or section.endian Big
 
+-- the most captured bytes of a packet
+abbrev pub most_captured : ℕ
+most_captured = 262144
+
+-- the most interfaces of a section
+abbrev pub most_interfaces : ℕ
+most_interfaces = 1024
+
 -- a number of bytes, rounded up to a multiple of 4
 abbrev pub padded : ℕ → ℕ
 padded n = (n + 3) / 4 * 4
@@ -37,7 +45,7 @@ is_bad least size = not (size % 4 == 0) || nat_lt size least
 unfoldable pub front_sized : ℕ → ℕ → ℕ → ℕ → Result Front Stop
 front_sized interfaces offset type size =
     if type == 1 then (if is_bad 20 size then Err (Block offset)
-    else (if nat_lt interfaces 1024 then Ok (front.Interface size) else Err (TooMany offset)))
+    else (if nat_lt interfaces most_interfaces then Ok (front.Interface size) else Err (TooMany offset)))
     else (if type == 6 then (if is_bad 32 size then Err (Block offset) else Ok (front.Packet size))
     else (if is_bad 12 size then Err (Block offset) else Ok (front.Other size)))
 
@@ -51,7 +59,7 @@ HasSize (front.Other size) = 12 ≤ size
 -- there is room for an interface that is described
 abbrev pub HasRoom : Front → ℕ → Type 0
 HasRoom front.Section interfaces = Unit {0}
-HasRoom (front.Interface size) interfaces = interfaces < 1024
+HasRoom (front.Interface size) interfaces = interfaces < most_interfaces
 HasRoom (front.Packet size) interfaces = Unit {0}
 HasRoom (front.Other size) interfaces = Unit {0}
 
@@ -107,7 +115,7 @@ time_of endian bytes = number endian 4 (drop 4 bytes) * 2 ^ 32 + number endian 4
 -- a packet of this interface with so many captured bytes
 unfoldable pub packet_sized : ℕ → ℕ → ℕ → Interface → ℕ → Result PacketHead Stop
 packet_sized offset size captured interface time =
-    if nat_lt 262144 captured then Err (TooLong offset captured)
+    if nat_lt most_captured captured then Err (TooLong offset captured)
     else (if nat_lt size (32 + padded captured) then Err (Block offset)
     else Ok (record { ms = milliseconds interface.resolution time; link = interface.link; captured = captured }))
 

@@ -11,9 +11,13 @@ pub record Place : Type 0 where
   pub offset : ℕ
   pub section : SectionView
 
+-- the most blocks of a capture
+abbrev pub most_blocks : ℕ
+most_blocks = 16777216
+
 -- the place of the first byte
 abbrev pub front_place : Place
-front_place = record { room = 16777216; offset = 0; section = record { endian = None; interfaces = [] } }
+front_place = record { room = most_blocks; offset = 0; section = record { endian = None; interfaces = [] } }
 
 -- the next packet, where its block begins, and the place and the bytes after its block
 pub record Arrival : Type 0 where

@@ -1,4 +1,5 @@
 ghost use Rattle.std.specs.Prelude.{◌≡◌, ℕ, ◌+◌, ◌<◌, ◌≤◌, List, length, take, drop, IfOk, IfErr, IsErr, OnOk};
+ghost use Rattle.sr_pcapng.specs.Front.{most_captured};
 ghost use Rattle.sr_io.specs.Faults.{Counts};
 ghost use Rattle.sr_io.specs.Window.{IsFilled, Pending, passed_over};
 ghost use Rattle.sr_pcapng.specs.Reading.{Fills, Passes};
@@ -18,18 +19,19 @@ pub struct Ahead {
 impl Model for Ahead {
     ghost use Rattle.std.specs.Prelude.{◌+◌, ◌≤◌, length};
     ghost use Rattle.sr_io.specs.Window.{WindowView};
+    ghost use Rattle.sr_pcapng.specs.Front.{most_captured};
 
     ghost Value = { WindowView };
 
     ghost view = { λ a. a.window };
 
-    ghost invariant = { λ a. length a.window.used + 262144 ≤ a.window.room };
+    ghost invariant = { λ a. length a.window.used + most_captured ≤ a.window.room };
 }
 
 impl Ahead {
     /// What is to be read through a window.
     pub fn new(window: Window) -> Ahead
-        requires { length window.used + 262144 ≤ window.room }
+        requires { length window.used + most_captured ≤ window.room }
         ensures { result ≡ window }
     {
         Ahead { window }
@@ -37,13 +39,15 @@ impl Ahead {
 
     /// Reads on until so many bytes are there, or all that are left. None of them is used.
     pub fn ready<S: Source>(&mut self, source: &mut S, size: usize) -> Result<(), Stop>
-        requires { size ≤ 262144 }
+        requires { size ≤ most_captured }
         ensures pending { (xs : List ℕ) → Pending self.old (S.known source.old).left xs → Pending self.new (S.known source.new).left xs }
         ensures filled { OnOk result (IsFilled self.new size) }
         ensures error { IfErr result (λ why. why ≡ ReadFault) }
         ensures faults { Counts (IsErr result) (S.known source.old).faults (S.known source.new).faults }
     {
-        self.window.fill(source, size)?;
+        if self.window.unread().len() < size {
+            self.window.fill(source, size)?;
+        }
         Ok(())
     }
 
@@ -71,7 +75,7 @@ impl Ahead {
         size: usize,
     ) -> Result<usize, Stop>
         requires fits { size ≤ length into.old }
-        requires most { size ≤ 262144 }
+        requires most { size ≤ most_captured }
         ensures bytes { (xs : List ℕ) → Pending self.old (S.known source.old).left xs
             → Fills result size xs into.new (Pending self.new (S.known source.new).left) }
         ensures within { IfOk result (λ n. n ≤ size) }

@@ -2,7 +2,7 @@ ghost use Rattle.std.specs.Prelude.{◌≡◌, ◌≢◌, ℕ, ◌+◌, ◌<◌,
 ghost use Rattle.sr_io.specs.Faults.{Counts};
 ghost use Rattle.sr_io.specs.Window.{Pending};
 ghost use Rattle.sr_pcapng.specs.Block.{no_packet, maybe_packet, block_at, last_fault, closed, section_block, interface_block, packet_block, other_block};
-ghost use Rattle.sr_pcapng.specs.Front.{SectionView};
+ghost use Rattle.sr_pcapng.specs.Front.{SectionView, most_captured, most_interfaces};
 ghost use Rattle.sr_pcapng.specs.Reading.{Gives};
 ghost use Rattle.sr_pcapng.specs.declared.stop.Stop.TheVariants.{ReadFault};
 
@@ -26,12 +26,12 @@ pub fn read_block<S: Source>(
     offset: u64,
     first: &[u8],
 ) -> Result<(Option<PacketHead>, u32), Stop>
-    requires packet { length packet.old ≡ 262144 }
+    requires packet { length packet.old ≡ most_captured }
     requires first { length first.now ≤ 8 }
     ensures reads { (xs : List ℕ) → Pending ahead.old (S.known source.old).left (drop 8 xs) → first.now ≡ take 8 xs
         → Gives (λ r. maybe_packet section.new packet.new r.0 r.1) result (block_at section.old offset xs)
         (Pending ahead.new (S.known source.new).left) }
-    ensures few { IfOk result (λ r. IfSome r.0 (λ head. head.captured ≤ 262144)) }
+    ensures few { IfOk result (λ r. IfSome r.0 (λ head. head.captured ≤ most_captured)) }
     ensures faults { Counts (result ≡ Err ReadFault) (S.known source.old).faults (S.known source.new).faults }
 {
     match section.front(offset, first)? {
@@ -84,7 +84,7 @@ fn read_interface<S: Source>(
     size: u32,
 ) -> Result<(), Stop>
     requires size { 20 ≤ size }
-    requires room { length section.old.interfaces < 1024 }
+    requires room { length section.old.interfaces < most_interfaces }
     ensures reads { (xs : List ℕ) → Pending ahead.old (S.known source.old).left xs →
         Gives (λ _. no_packet section.new size) result (interface_block section.old offset size xs)
         (Pending ahead.new (S.known source.new).left) }
@@ -112,12 +112,12 @@ fn read_packet<S: Source>(
     offset: u64,
     size: u32,
 ) -> Result<PacketHead, Stop>
-    requires packet { length packet.old ≡ 262144 }
+    requires packet { length packet.old ≡ most_captured }
     requires size { 32 ≤ size }
     ensures reads { (xs : List ℕ) → Pending ahead.old (S.known source.old).left xs →
         Gives (λ h. maybe_packet section.now packet.new (Some h) size) result (packet_block section.now offset size xs)
         (Pending ahead.new (S.known source.new).left) }
-    ensures few { IfOk result (λ head. head.captured ≤ 262144) }
+    ensures few { IfOk result (λ head. head.captured ≤ most_captured) }
     ensures faults { Counts (result ≡ Err ReadFault) (S.known source.old).faults (S.known source.new).faults }
 {
     let endian = section.endian();

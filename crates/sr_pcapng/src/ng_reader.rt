@@ -1,4 +1,5 @@
 ghost use Rattle.std.specs.Prelude.{◌≡◌, ℕ, ◌+◌, ◌<◌, ◌≤◌, List, [], length, None, Ok, Err, Some, IfOk};
+ghost use Rattle.sr_pcapng.specs.Front.{most_captured};
 ghost use Rattle.std.specs.Option.{ForSome};
 ghost use Rattle.sr_io.specs.Faults.{Counts};
 ghost use Rattle.sr_io.specs.Window.{Pending};
@@ -36,6 +37,7 @@ pub struct NgReader {
 
 impl Model for NgReader {
     ghost use Rattle.std.specs.Prelude.{◌≡◌, ◌+◌, ◌*◌, ◌^◌, ◌≤◌, take, vec_len};
+    ghost use Rattle.sr_pcapng.specs.Front.{most_captured};
     ghost use Rattle.sr_pcapng.specs.Reader.{ReaderView};
 
     ghost Value = { ReaderView };
@@ -48,7 +50,7 @@ impl Model for NgReader {
     } };
 
     ghost invariant = { λ r.
-        (vec_len r.packet ≡ 262144) × (r.size ≤ 262144)
+        (vec_len r.packet ≡ most_captured) × (r.size ≤ most_captured)
         × (r.offset + r.room * 2 ^ 32 ≤ 2 ^ 56) };
 }
 
@@ -56,7 +58,7 @@ impl NgReader {
     /// A reader through this window, in which nothing is used yet. It reads nothing. The room for a packet is made here, and no call after this
     /// one needs memory.
     pub fn begin(alloc: Global, window: Window) -> Result<NgReader, AllocError>
-        requires { length window.used + 262144 ≤ window.room }
+        requires { length window.used + most_captured ≤ window.room }
         ensures { IfOk result (λ r. r ≡ record { place = front_place; bytes = []; window = window; ended = None }) }
     {
         Ok(NgReader {

@@ -1,5 +1,5 @@
 ghost use Rattle.std.specs.Prelude.{◌≡◌, ◌≢◌, ◌+◌, ◌<◌, ◌≤◌, ◌++◌, ◌∷◌, [], length, Err, Some, None, IfOk, IsOk, is_some};
-ghost use Rattle.sr_pcapng.specs.Front.{endian_of, front_of, front_in, front_sized, header_of, header_in, packet_of, packet_sized, is_bad, padded, HasSize, HasRoom};
+ghost use Rattle.sr_pcapng.specs.Front.{endian_of, front_of, front_in, front_sized, header_of, header_in, packet_of, packet_sized, is_bad, padded, HasSize, HasRoom, most_captured, most_interfaces};
 ghost use Rattle.sr_pcapng.specs.declared.stop.Stop.TheVariants.{ReadFault};
 
 use crate::endian::Endian;
@@ -31,13 +31,13 @@ pub struct Section {
 
 impl Model for Section {
     ghost use Rattle.std.specs.Prelude.{◌≤◌, vec_len, vec_capacity};
-    ghost use Rattle.sr_pcapng.specs.Front.{SectionView};
+    ghost use Rattle.sr_pcapng.specs.Front.{SectionView, most_interfaces};
 
     ghost Value = { SectionView };
 
     ghost view = { λ s. record { endian = s.endian; interfaces = s.interfaces.items } };
 
-    ghost invariant = { λ s. (vec_len s.interfaces ≤ 1024) × (1024 ≤ vec_capacity s.interfaces) };
+    ghost invariant = { λ s. (vec_len s.interfaces ≤ most_interfaces) × (most_interfaces ≤ vec_capacity s.interfaces) };
 }
 
 impl Section {
@@ -75,7 +75,7 @@ impl Section {
 
     /// Adds an interface, for which there is room.
     pub fn add(&mut self, interface: Interface)
-        requires { length self.old.interfaces < 1024 }
+        requires { length self.old.interfaces < most_interfaces }
         ensures { self.new ≡ record { endian = self.old.endian; interfaces = self.old.interfaces ++ interface ∷ [] } }
     {
         match self.interfaces.push(interface) {
@@ -120,7 +120,7 @@ impl Section {
     ) -> Result<PacketHead, Stop>
         ensures exact { result ≡ packet_of endian self.now.interfaces offset size bytes.now }
         ensures judged { result ≢ Err ReadFault }
-        ensures fits { IfOk result (λ h. (h.captured ≤ 262144) × (32 + h.captured ≤ size)) }
+        ensures fits { IfOk result (λ h. (h.captured ≤ most_captured) × (32 + h.captured ≤ size)) }
     {
         if bytes.len() < 4 {
             return Err(Stop::Truncated { offset });
@@ -246,7 +246,7 @@ fn packet_sized(
 ) -> Result<PacketHead, Stop>
     ensures exact { result ≡ packet_sized offset size captured interface time }
     ensures judged { result ≢ Err ReadFault }
-    ensures fits { IfOk result (λ h. (h.captured ≤ 262144) × (32 + h.captured ≤ size)) }
+    ensures fits { IfOk result (λ h. (h.captured ≤ most_captured) × (32 + h.captured ≤ size)) }
 {
     if captured > MOST_CAPTURED {
         return Err(Stop::TooLong {
