@@ -1,8 +1,8 @@
 -- The rule holds at the beginning.
-use Rattle.std.proofs.Common.{◌≡◌, ◌≢◌, ◌∙◌, ℕ, zero, suc, ◌+◌, ◌≤◌, ◌<◌, ◌==◌, Bool, true, false, List, [], ◌∷◌, length, map, Option, Some, None, option_map, slice_get, refl, sym, ap, subst, zero-add, arith, if◌then◌else◌}
+use Rattle.std.proofs.Common.{◌≡◌, ◌∙◌, ℕ, zero, suc, ◌+◌, ◌≤◌, ◌<◌, ◌==◌, Bool, true, false, List, [], ◌∷◌, length, map, Some, option_map, slice_get, refl, sym, ap, subst, zero-add, arith, if◌then◌else◌}
 use Rattle.std.proofs.lemmas.Bool.Decides.{nat_tests}
 use Rattle.std.specs.List.{range_with_len}
-use Rattle.atomic_table.specs.Table.{State, opening as opening_table}
+use Rattle.atomic_table.specs.Table.{opening as opening_table}
 use Rattle.sr_acts.specs.Config.{IsFitting}
 use Rattle.sr_base.specs.Layout.{IsLayout, LayoutView}
 use Rattle.sr_base.specs.WordName.{words_of}
@@ -10,18 +10,15 @@ use Rattle.sr_core.specs.PlainWords.{ShowsWords}
 use Rattle.sr_base.specs.declared.change.Change.{Change}
 use Rattle.sr_law.specs.Pools.{VipPools}
 use Rattle.sr_machine.specs.Config.{Config}
-use Rattle.sr_machine.specs.Core.{Core, opening, view_at}
-use Rattle.sr_machine.specs.Opening.{opening_controller, opening_pipes, opening_words}
+use Rattle.sr_machine.specs.Core.{Core, opening}
+use Rattle.sr_machine.specs.Opening.{opening_pipes, opening_words}
 use Rattle.sr_machine.specs.Pipe.{fresh_pipe}
 use Rattle.sr_machine.specs.declared.actor.Actor.{Actor}
 use Rattle.sr_machine.specs.declared.actor.Actor.TheVariants.{Pipe, Controller}
-use Rattle.sr_machine.specs.declared.pipe_view.PipeView.{PipeView}
-use Rattle.sr_machine.specs.declared.view.View.{View}
-use Rattle.sr_machine.specs.declared.view.View.TheVariants.{OfPipe, OfController}
+use Rattle.sr_machine.specs.declared.view.View.TheVariants.{OfPipe}
 use Rattle.sr_inv_facts.specs.Fitted.{IsFitted}
-use Rattle.sr_inv_final.specs.Reached.{IsReached}
 use Rattle.sr_words.specs.Rule.{Ruled}
-use Rattle.sr_words.specs.Seats.{AllShown, actor_of, claimed, first_seated, first_views, same_actor, times_in}
+use Rattle.sr_words.specs.Seats.{AllShown, first_seated, first_views, times_in}
 use Rattle.sr_words.specs.declared.seated.Seated.{Seated}
 use lib.ListN.{get_elem?}
 use mathlib.Core.Option.{some, some-injective, some-ne-none}

@@ -1,11 +1,11 @@
 -- How often an actor stands among the seats.
-use Rattle.std.proofs.Common.{◌≡◌, ◌≢◌, ◌∙◌, ℕ, Some, zero, suc, ◌+◌, ◌≤◌, ◌==◌, Bool, true, false, List, [], ◌∷◌, ◌++◌, set, refl, sym, ap, subst, zero-add, arith, if◌then◌else◌}
+use Rattle.std.proofs.Common.{◌≡◌, ◌≢◌, ◌∙◌, ℕ, Some, zero, suc, ◌+◌, ◌≤◌, Bool, true, false, List, [], ◌∷◌, ◌++◌, set, refl, sym, ap, zero-add, arith, if◌then◌else◌}
 use Rattle.std.proofs.lemmas.Bool.Decides.{nat_tests}
 use Rattle.sr_machine.specs.Core.{Core, view_at}
 use Rattle.sr_machine.specs.declared.actor.Actor.{Actor}
 use Rattle.sr_machine.specs.declared.actor.Actor.TheVariants.{Pipe, Controller}
 use Rattle.sr_machine.specs.declared.view.View.{View}
-use Rattle.sr_words.specs.Seats.{AllShown, actor_of, claimed, same_actor, seated, times_in}
+use Rattle.sr_words.specs.Seats.{AllShown, actor_of, claimed, same_actor, times_in}
 use Rattle.sr_words.specs.declared.seated.Seated.{Seated}
 use lib.ListN.{get_elem?}
 use mathlib.Core.Option.{some, some-injective, some-ne-none}

@@ -1,6 +1,6 @@
 -- What an actor is told and each step that it makes lead from a state that events lead to on to another one: the actor's view changes,
 -- and no other's.
-use Rattle.std.proofs.Common.{◌≡◌, ◌≢◌, ◌∙◌, ℕ, ◌+◌, ◌^◌, ◌==◌, ◌&&◌, nat_lt, Bool, true, false, List, [], ◌∷◌, ◌++◌, length, slice_get, slice_set, Option, Some, None, option_map, option_and_then, refl, sym, ap, subst, arith, if◌then◌else◌}
+use Rattle.std.proofs.Common.{◌≡◌, ◌≢◌, ◌∙◌, ℕ, ◌+◌, ◌^◌, ◌&&◌, nat_lt, Bool, true, false, List, [], ◌∷◌, ◌++◌, length, slice_get, Option, Some, None, option_map, option_and_then, refl, sym, ap, subst, arith, if◌then◌else◌}
 use Rattle.std.proofs.lemmas.Bool.Decides.{nat_tests}
 use Rattle.std.proofs.lemmas.Option.{same_Some, slice_get_within}
 use Rattle.std.specs.List.{AllByRecursion}
@@ -12,7 +12,7 @@ use Rattle.sr_machine.specs.Core.{Core, made, opening, run, step_event, stepped,
 use Rattle.sr_machine.specs.Keeping.{Brings}
 use Rattle.sr_machine.specs.Ops.{op_answer, op_name, op_words}
 use Rattle.sr_machine.specs.Pipe.{entered, has_vip, is_idle}
-use Rattle.sr_machine.specs.Telling.{is_no_earlier, may_refuse, told_time, told_to_refuse}
+use Rattle.sr_machine.specs.Telling.{told_time, told_to_refuse}
 use Rattle.sr_machine.specs.declared.actor.Actor.{Actor}
 use Rattle.sr_machine.specs.declared.actor.Actor.TheVariants.{Pipe, Controller}
 use Rattle.sr_machine.specs.declared.controller_view.ControllerView.{ControllerView}
@@ -39,7 +39,7 @@ bound f (Some x) y e = (x, refl, e)
 
 -- ---- views of a state
 
-pipe_here : (o : Option PipeView) (v : PipeView) → option_map OfPipe o ≡ Some (OfPipe v) → o ≡ Some v
+pub pipe_here : (o : Option PipeView) (v : PipeView) → option_map OfPipe o ≡ Some (OfPipe v) → o ≡ Some v
 pipe_here None v e = cc
 pipe_here (Some w) v e = cc
 

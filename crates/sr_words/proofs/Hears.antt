@@ -1,5 +1,5 @@
 -- What is told makes known what was told before it, too.
-use Rattle.std.proofs.Common.{◌≡◌, ◌∙◌, ℕ, ◌+◌, ◌^◌, ◌≤◌, ◌&&◌, nat_le, nat_lt, Bool, true, false, length, Option, Some, None, option_map, option_and_then, refl, sym, ap, subst, arith, if◌then◌else◌}
+use Rattle.std.proofs.Common.{◌≡◌, ◌∙◌, ℕ, ◌+◌, ◌^◌, ◌&&◌, nat_le, nat_lt, Bool, true, false, length, Option, Some, None, option_map, option_and_then, refl, sym, ap, arith, if◌then◌else◌}
 use Rattle.std.proofs.lemmas.Bool.Decides.{nat_tests}
 use Rattle.std.proofs.lemmas.Option.{same_Some}
 use Rattle.sr_base.specs.declared.packet.Packet.{Packet}
@@ -38,6 +38,31 @@ module _ (k : Config) where
       entered_then (is_idle v.stage && (has_vip k.layout packet && nat_lt (length v.lines + 1) (2 ^ 32))) v packet other y e
   enters_once packet other (OfController c) y e = cc
 
+  busy_then : (b : Bool) (v w : PipeView) (packet : Packet)
+      → option_map OfPipe (if b then Some (record v { stage = stage.Enter packet }) else None) ≡ Some (OfPipe w) → is_idle w.stage ≡ false
+  busy_then true v w packet e =
+      let same : OfPipe (record v { stage = stage.Enter packet }) ≡ OfPipe w =
+      same_Some (OfPipe (record v { stage = stage.Enter packet })) (OfPipe w) e in
+      let is : record v { stage = stage.Enter packet } ≡ w = cc in ap (λ (u : PipeView). is_idle u.stage) (sym is)
+  busy_then false v w packet e = cc
+
+  pub enters_busy : (packet : Packet) (x : View) (w : PipeView) → told_packet packet k x ≡ Some (OfPipe w) → is_idle w.stage ≡ false
+  enters_busy packet (OfPipe v) w e =
+      busy_then (is_idle v.stage && (has_vip k.layout packet && nat_lt (length v.lines + 1) (2 ^ 32))) v w packet e
+  enters_busy packet (OfController c) w e = cc
+
+  number_then : (b : Bool) (v w : PipeView) (packet : Packet)
+      → option_map OfPipe (if b then Some (record v { stage = stage.Enter packet }) else None) ≡ Some (OfPipe w) → w.number ≡ v.number
+  number_then true v w packet e =
+      let same : OfPipe (record v { stage = stage.Enter packet }) ≡ OfPipe w =
+      same_Some (OfPipe (record v { stage = stage.Enter packet })) (OfPipe w) e in
+      let is : record v { stage = stage.Enter packet } ≡ w = cc in ap (λ (u : PipeView). u.number) (sym is)
+  number_then false v w packet e = cc
+
+  pub enters_number : (packet : Packet) (v w : PipeView) → told_packet packet k (OfPipe v) ≡ Some (OfPipe w) → w.number ≡ v.number
+  enters_number packet v w e =
+      number_then (is_idle v.stage && (has_vip k.layout packet && nat_lt (length v.lines + 1) (2 ^ 32))) v w packet e
+
   -- the other tellings are the controller's
   pipe_then : (o : Option PipeView) (y : View) → option_map OfPipe o ≡ Some y → (w : PipeView) × (y ≡ OfPipe w)
   pipe_then None y e = cc
@@ -52,7 +77,7 @@ module _ (k : Config) where
   controller_then None y e = cc
   controller_then (Some d) y e = (d, sym (same_Some (OfController d) y e))
 
-  time_controller : (ms : ℕ) (x y : View) → told_ms ms k x ≡ Some y → (c : ControllerView) × (y ≡ OfController c)
+  pub time_controller : (ms : ℕ) (x y : View) → told_ms ms k x ≡ Some y → (c : ControllerView) × (y ≡ OfController c)
   time_controller ms (OfPipe v) y e = cc
   time_controller ms (OfController c) y e = controller_then (told_time ms c) y e
 
@@ -108,7 +133,7 @@ module _ (k : Config) where
   refuses_once o (OfController c) y z e f = refused_then (may_refuse c) c o y z e f
 
   -- what a refusal and times leave is a controller's
-  refusal_then : (before after : Option ℕ) (x y : View) → told (Refusal before after) k x ≡ Some y
+  pub refusal_then : (before after : Option ℕ) (x y : View) → told (Refusal before after) k x ≡ Some y
       → (c : ControllerView) × (y ≡ OfController c)
   refusal_then before after x y e =
       let a = bound (told_ms_if k after) (option_and_then (told_refusal k) (told_ms_if k before x)) y e in

@@ -1,7 +1,11 @@
+mod AtRest
 mod Beginning
 mod Claims
 mod Follows
 mod Hears
+mod Joining
 mod Launching
+mod Reports
 mod Seating
 mod Stepping
+mod Unchosen

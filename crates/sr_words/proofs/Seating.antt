@@ -1,5 +1,5 @@
 -- To split a seat and to join two keeps the rule, and a look changes nothing.
-use Rattle.std.proofs.Common.{◌≡◌, ◌≢◌, ◌∙◌, ℕ, ◌+◌, ◌≤◌, List, [], ◌∷◌, ◌++◌, length, set, slice_index, Some, refl, sym, ap, subst, ⊎_elim, arith}
+use Rattle.std.proofs.Common.{◌≡◌, ℕ, ◌+◌, ◌≤◌, List, [], ◌∷◌, ◌++◌, set, slice_index, refl, sym, ap, subst, ⊎_elim, arith}
 use Rattle.std.proofs.lemmas.List.{set-get_or}
 use Rattle.atomic_table.proofs.Lists.{at_set, at_snoc, set_again}
 use Rattle.atomic_table.specs.Table.{Allows, Joins, Me, Splits, State, keeps}
@@ -10,10 +10,10 @@ use Rattle.sr_machine.specs.declared.view.View.{View}
 use Rattle.sr_words.proofs.Claims.{claimed_more, claimed_set, shown_both, times_both}
 use Rattle.sr_words.proofs.Follows.{Follows, follows_self, follows_told}
 use Rattle.sr_words.proofs.Stepping.{shown_seat}
-use Rattle.sr_words.specs.Hearing.{IsGood, told}
+use Rattle.sr_words.specs.Hearing.{IsGood}
 use Rattle.sr_words.specs.Rule.{Ruled}
 use Rattle.sr_words.specs.Seats.{AllShown, actor_of, claimed, only_second, seated, times_in, together, without_second}
-use Rattle.sr_words.specs.Steps.{IsShown, Looks}
+use Rattle.sr_words.specs.Steps.{Looks}
 use Rattle.sr_words.specs.declared.heard.Heard.{Heard}
 use Rattle.sr_words.specs.declared.seated.Seated.{Seated}
 use lib.ListN.{get_elem?}

@@ -1,5 +1,5 @@
 -- A seat's step keeps the rule, and is one that the machine makes.
-use Rattle.std.proofs.Common.{◌≡◌, ◌≢◌, ◌∙◌, ℕ, ◌+◌, ◌≤◌, ◌%◌, ◌^◌, Bool, true, false, List, [], ◌∷◌, length, set, Option, Some, None, bit_or, slice_index, slice_set, refl, sym, ap, subst, ⊎_elim, arith, if◌then◌else◌}
+use Rattle.std.proofs.Common.{◌≡◌, ◌≢◌, ◌∙◌, ℕ, ◌+◌, ◌≤◌, ◌%◌, ◌^◌, Bool, List, [], ◌∷◌, length, set, Some, bit_or, slice_index, refl, sym, ap, subst, ⊎_elim, arith, if◌then◌else◌}
 use Rattle.std.proofs.lemmas.List.{length-set}
 use Rattle.std.proofs.lemmas.Option.{same_Some}
 use Rattle.atomic_table.proofs.Lists.{at_set}
@@ -12,7 +12,7 @@ use Rattle.sr_machine.proofs.Words.{named_there, rewritten_same}
 use Rattle.sr_base.specs.declared.word_name.WordName.{WordName}
 use Rattle.sr_machine.specs.Boards.{FitsAfter, IsNext}
 use Rattle.sr_machine.specs.Config.{Config}
-use Rattle.sr_machine.specs.Core.{Core, view_after, view_at, view_op}
+use Rattle.sr_machine.specs.Core.{view_after, view_at, view_op}
 use Rattle.sr_machine.specs.Names.{name_for, rewritten, word_name}
 use Rattle.sr_machine.specs.Ops.{op_answer, op_change, op_name, op_words}
 use Rattle.sr_machine.specs.declared.actor.Actor.{Actor}

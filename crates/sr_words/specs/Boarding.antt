@@ -1,17 +1,19 @@
 -- Boards as data, and the boards of a switch.
-use Rattle.std.specs.List.{range_with_len}
-use Rattle.std.specs.Prelude.{◌≡◌, ℕ, ◌+◌, ◌<◌, ◌⊎◌, ◌++◌, true, List, [], ◌∷◌, map}
+use Rattle.std.specs.List.{list_all, range_with_len}
+use Rattle.std.specs.Prelude.{◌≡◌, ℕ, ◌+◌, ◌-◌, ◌++◌, Bool, true, false, List, [], ◌∷◌, map}
 use Rattle.atomic_table.specs.Seated.{TableId}
 use Rattle.atomic_table.specs.Table.{Me}
 use Rattle.sr_base.specs.Layout.{LayoutView}
 use Rattle.sr_machine.specs.Config.{Config}
+use Rattle.sr_machine.specs.Deciding.{words_taken}
 use Rattle.sr_machine.specs.Opening.{opening_controller}
 use Rattle.sr_machine.specs.Pipe.{fresh_pipe, is_idle}
+use Rattle.sr_machine.specs.declared.controller_view.ControllerView.{ControllerView}
 use Rattle.sr_machine.specs.declared.pipe_view.PipeView.{PipeView}
 use Rattle.sr_machine.specs.declared.view.View.{View}
 use Rattle.sr_machine.specs.declared.view.View.TheVariants.{OfPipe, OfController}
 use Rattle.sr_words.specs.Seats.{first_seated, seated}
-use Rattle.sr_words.specs.Steps.{FitsSeat, IsShown}
+use Rattle.sr_words.specs.Steps.{FitsSeat}
 use Rattle.sr_words.specs.declared.heard.Heard.{Heard}
 use Rattle.sr_words.specs.declared.heard.Heard.TheVariants.{Nothing}
 use Rattle.sr_words.specs.declared.seated.Seated.{Seated}
@@ -67,15 +69,27 @@ FitIdle (b ∷ rest) [] = ⊥
 FitIdle (b ∷ rest) (v ∷ views) =
     ((k : Config) × FitsSeat b.config b.seat b.heard k (OfPipe v)) × (is_idle v.stage ≡ true) × FitIdle rest views
 
--- an idle pipe of this number is among the views
-abbrev pub IsIdlePipe : ℕ → View → Type 0
-IsIdlePipe p (OfPipe v) = (v.number ≡ p) × (is_idle v.stage ≡ true)
-IsIdlePipe p (OfController c) = ⊥
+-- the one actor is the controller
+abbrev pub is_controlled : List View → Bool
+is_controlled (OfController c ∷ []) = true
+is_controlled views = false
 
-abbrev pub HasIdle : ℕ → List View → Type 0
-HasIdle p [] = ⊥
-HasIdle p (x ∷ rest) = IsIdlePipe p x ⊎ HasIdle p rest
+-- These are what the controller and all pipes know, in order, and no pipe has a packet in hand.
+pub record AreAtRest (l : LayoutView) (views : List View) : Type 0 where
+  pub controller : ControllerView
+  pub pipes : List PipeView
+  pub are : views ≡ OfController controller ∷ map OfPipe pipes
+  pub numbers : map (λ v. v.number) pipes ≡ range_with_len 0 l.shape.pipes
+  pub idle : list_all (λ v. is_idle v.stage) pipes ≡ true
 
--- every pipe is, and has no packet in hand
-abbrev pub AreAtRest : LayoutView → List View → Type 0
-AreAtRest l views = (p : ℕ) → p < l.shape.pipes → HasIdle p views
+-- how many reports pipes have pushed
+abbrev pub pushed_in : List View → ℕ
+pushed_in [] = 0
+pushed_in (OfPipe v ∷ rest) = v.pushed + pushed_in rest
+pushed_in (OfController c ∷ rest) = pushed_in rest
+
+-- and how many of them the controller, whose view is the first, hasn't taken
+abbrev pub reports_in : List View → ℕ
+reports_in (OfController c ∷ rest) = pushed_in rest - words_taken c.rings
+reports_in (OfPipe v ∷ rest) = 0
+reports_in [] = 0

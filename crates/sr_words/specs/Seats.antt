@@ -1,6 +1,5 @@
 -- What the seats of the table know, and how a state shows it.
 use Rattle.std.specs.Prelude.{◌≡◌, ℕ, ◌+◌, ◌==◌, Bool, true, false, List, [], ◌∷◌, ◌++◌, map, Some, if◌then◌else◌}
-use Rattle.sr_base.specs.declared.shape.Shape.{Shape}
 use Rattle.sr_machine.specs.Config.{Config}
 use Rattle.sr_machine.specs.Core.{Core, view_at}
 use Rattle.sr_machine.specs.Opening.{opening_controller, opening_pipes}

@@ -38,8 +38,11 @@ pub record IsShown (k : Config) (views : List View) : Type 0 where
   pub reached : IsReached k state
   pub shown : AllShown state views
 
--- A look changes nothing: the seat's actors, the first of whom was told this, know this in a state that events lead to.
+-- a seat's actors, the first of whom was told this, know this in a state that events lead to
+abbrev pub ShowsAll : Config → Seated → Heard → Type 0
+ShowsAll k seat h =
+    (x y : View) (rest : List View) → seat.actors ≡ x ∷ rest → told h k x ≡ Some y → IsShown k (y ∷ rest)
+
+-- a look changes nothing, and tells what the seat's actors know
 abbrev pub Looks : Config → Heard → Seated → Seated → Type 0
-Looks k h old new =
-    (new ≡ old)
-    × ((x y : View) (rest : List View) → old.actors ≡ x ∷ rest → told h k x ≡ Some y → IsShown k (y ∷ rest))
+Looks k h old new = (new ≡ old) × ShowsAll k old h

@@ -7,11 +7,14 @@
 //! | What a board was told since its last step | `heard` | `Hearing` |
 //! | The rule of the table | `rule` | `Rule` |
 //! | Single steps, and the board that makes them | `steps`, `word_board` | `Steps`, `Besides` |
-//! | The words of a machine, and all its boards | `switch`, `boards` | `Boarding` |
+//! | The words of a machine, all its boards, and their rest | `switch`, `boards`, `resting` | `Boarding` |
+//! | What follows | `laws` | `Laws` |
 #![tactic(auto)]
 
 mod boards;
 mod heard;
+mod laws;
+mod resting;
 mod rule;
 mod seated;
 mod steps;
@@ -20,6 +23,10 @@ mod word_board;
 
 pub use boards::Boards;
 pub use heard::Heard;
+pub use laws::{
+    boards_know_their_pipes, heads_are_stored_unchosen, shown_states_meet_the_invariant,
+};
+pub use resting::{Closed, Rested, Resting};
 pub use rule::{Knowing, Looking, Making, Second, Telling, Together, Words};
 pub use seated::Seated;
 pub use switch::{First, Switch};

@@ -1,14 +1,17 @@
 ghost use Rattle.std.specs.Prelude.{◌≡◌, [], IfOk};
 ghost use Rattle.sr_base.specs.WordName.{words_of};
 ghost use Rattle.sr_words.specs.Boarding.{AreNew, IsFirst};
+ghost use Rattle.sr_words.specs.Steps.{ShowsAll};
 ghost use Rattle.sr_words.specs.declared.heard.Heard.TheVariants.{Nothing};
 
-use crate::{Boards, Heard, Knowing, Seated, Second, WordBoard};
+use crate::steps::look_told;
+use crate::{Boards, Closed, Heard, Knowing, Rested, Seated, Second, WordBoard};
 use atomic_table::{Seat, Table};
 use sr_acts::MachineConfig;
 use sr_base::{Layout, layout_ranges, words_stand_apart};
 use sr_core::PlainWords;
 use std::alloc::{AllocError, Global};
+use std::marker::Brand;
 
 /// The shared words of a machine, for threads.
 #[derive(Drop)]
@@ -70,5 +73,18 @@ impl Switch {
             seat,
             heard: Heard::Nothing,
         }
+    }
+
+    /// The end of the words. What the actors of the joined seat know, they know in a state that events lead to.
+    pub fn close(self, rested: Rested) -> Closed
+        requires { rested.seat.table_id ≡ self.table.shared.table_id }
+        ensures shown { ShowsAll self.table.shared.key rested.seat.me.0 rested.heard }
+        ensures seat { result.seat.me.0 ≡ rested.seat.me.0 }
+    {
+        words_stand_apart(&self.layout);
+        let Rested { mut seat, heard } = rested;
+        look_told::<Brand>(&self.table.shared, &mut seat, &heard);
+        drop(self);
+        Closed { seat }
     }
 }

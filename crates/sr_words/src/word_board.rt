@@ -3,13 +3,14 @@ ghost use Rattle.sr_base.specs.WordName.{HasWord, words_of};
 ghost use Rattle.sr_machine.specs.Boards.{IsNext};
 ghost use Rattle.sr_machine.specs.Names.{name_for};
 ghost use Rattle.sr_machine.specs.declared.op.Op.TheVariants.{Adds, Loads, Ors, Stores, Swaps};
+ghost use Rattle.sr_words.specs.Seats.{together};
 ghost use Rattle.sr_words.specs.Steps.{FitsSeat, Makes};
 ghost use Rattle.sr_words.specs.declared.heard.Heard.TheVariants.{Nothing};
 
 use crate::steps::{add_told, load_told, or_told, store_told, swap_told};
-use crate::{Heard, Seated, Words};
+use crate::{Heard, Seated, Together, Words};
 use atomic_table::Seat;
-use sr_base::{Layout, Packet, WordName};
+use sr_base::{Layout, Packet, WordName, words_stand_apart};
 use sr_machine::Board;
 use std::marker::Brand;
 
@@ -175,5 +176,24 @@ impl WordBoard<'_> {
         );
         self.heard = Heard::Nothing;
         found
+    }
+
+    // Its seat and another one are joined.
+    pub(crate) fn join(&mut self, other: WordBoard<'_>)
+        requires { other.seat.table_id ≡ self.old.seat.table_id }
+        ensures seat { self.new.seat.me.0 ≡ together self.old.seat.me.0 other.entry.seat.me.0 }
+        ensures heard { self.new.heard ≡ self.old.heard }
+        ensures key { self.new.words.now.key ≡ self.old.words.now.key }
+        ensures layout { self.new.layout ≡ self.old.layout }
+        ensures table { self.new.seat.table_id ≡ self.old.seat.table_id }
+    {
+        words_stand_apart(&self.layout);
+        let WordBoard {
+            words: _,
+            layout: _,
+            seat,
+            heard: _,
+        } = other;
+        self.words.join_seat::<Together>(&mut self.seat, seat);
     }
 }

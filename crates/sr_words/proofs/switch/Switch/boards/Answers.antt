@@ -1,13 +1,13 @@
-use Rattle.std.proofs.Common.{◌≡◌, ◌∙◌, ◌<◌, ◌+◌, [], length, map, replicate, sym, ap, arith}
+use Rattle.std.proofs.Common.{◌≡◌, ◌∙◌, ◌<◌, ◌+◌, ◌-◌, ◌-◌, length, map, replicate, sym, ap, arith}
 use Rattle.std.specs.List.{range_with_len}
 use Rattle.sr_base.specs.WordName.{place_of, words_of}
 use Rattle.sr_base.specs.declared.word_name.WordName.TheVariants.{Tick}
 use Rattle.sr_machine.specs.Pipe.{fresh_pipe}
-use Rattle.sr_machine.specs.Opening.{opening_controller}
-use Rattle.sr_machine.specs.declared.view.View.TheVariants.{OfController, OfPipe}
-use Rattle.sr_words.proofs.Launching.{all_left, held_is, none_left, numbers_are, one_less, one_more, one_off, tables_are}
+use Rattle.sr_machine.specs.declared.view.View.TheVariants.{OfPipe}
+use Rattle.sr_words.proofs.Launching.{all_left, held_is, none_left, numbers_are, one_less, one_more, one_off, tables_are, views_left}
 use Rattle.sr_words.proofs.Seating.{splits}
-use Rattle.sr_words.specs.Boarding.{held}
+use Rattle.sr_words.specs.Boarding.{held, is_controlled}
+use Rattle.sr_words.specs.Seats.{seated}
 use Rattle.sr_words.proofs.switch.Switch.boards.Goals as goal
 
 pub loop-number-init : goal.loop-number-init
@@ -64,4 +64,8 @@ invariant_of-result c =
           ∙ ap (range_with_len 1)
           (last ∙ ap (λ s. s.pipes) c.shape.ensures ∙ ap (λ l. l.shape.pipes) c.args.self.now.placed
           ∙ sym (ap (λ l. l.shape.pipes) c.board-controller.result.placed ∙ ap (λ w. w.key.layout.shape.pipes) c.board-controller.ensures.words));
+      alone =
+          ap (λ x. is_controlled x.me.0.actors) c.board-controller.ensures.seat
+          ∙ ap (λ v. is_controlled v.actors)
+          (none_left k c.shape.result.now.pipes c.loop-number.seat.me.0 (i.2 ∙ ap (λ m. seated (views_left k m (c.shape.result.now.pipes - m))) last));
     }
