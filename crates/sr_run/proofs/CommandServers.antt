@@ -6,7 +6,7 @@ use Rattle.std.specs.List.{list_any, slice_split}
 use Rattle.std.proofs.lemmas.Bool.{and_parts}
 use Rattle.std.proofs.lemmas.Option.{cond_some}
 use Rattle.sr_script.specs.Address.{address_of}
-use Rattle.sr_run.specs.Command.{Command, One, Make, Audit, Steps, IsInRange, begins_with_dash, command_of, command_of_plain, make_of, one_of, steps_of}
+use Rattle.sr_run.specs.Command.{Command, One, Make, Audit, Replay, Steps, IsInRange, begins_with_dash, command_of, command_of_plain, make_of, one_of, steps_of}
 use Rattle.sr_run.specs.Numbers.{count_of_packets, number_of, packets_in}
 use Rattle.sr_run.specs.Servers.{addresses_of, all_differ, counted, count_of_servers}
 
@@ -52,6 +52,9 @@ make_some (Some n) (Some p) c some e = let same : Make n p ≡ c = cc in subst I
 audit_some : (script : List ℕ) (c : Command) → Some (Audit script) ≡ Some c → IsInRange c
 audit_some script c e = let same : Audit script ≡ c = cc in subst IsInRange same tt
 
+replay_some : (script : List ℕ) (c : Command) → Some (Replay script) ≡ Some c → IsInRange c
+replay_some script c e = let same : Replay script ≡ c = cc in subst IsInRange same tt
+
 steps_some : (script : List ℕ) (seed : Option ℕ) (c : Command) → option_map (λ n. Steps script n) seed ≡ Some c → IsInRange c
 steps_some script None c e = absurd cc
 steps_some script (Some n) c e = let same : Steps script n ≡ c = cc in subst IsInRange same tt
@@ -63,7 +66,9 @@ either_some false a b c first second e = second c e
 plain_some : (words : List (List ℕ)) (c : Command) → command_of_plain words ≡ Some c → IsInRange c
 plain_some [] c e = absurd cc
 plain_some (a ∷ []) c e = absurd cc
-plain_some (name ∷ script ∷ []) c e = either_some (bytes_eq name (codes "audit")) (Some (Audit script)) None c (λ d f. audit_some script d f) (λ d f. absurd cc) e
+plain_some (name ∷ script ∷ []) c e =
+    either_some (bytes_eq name (codes "replay")) (Some (Replay script)) _ c (λ d f. replay_some script d f)
+    (λ d f. either_some (bytes_eq name (codes "audit")) (Some (Audit script)) None d (λ h k. audit_some script h k) (λ h k. absurd cc) f) e
 plain_some (name ∷ first ∷ second ∷ []) c e =
     either_some (bytes_eq name (codes "one")) (one_of first second) _ c
     (λ d f. one_some (address_of first) (count_of_servers second) d (count_some second) f)

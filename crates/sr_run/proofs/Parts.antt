@@ -12,7 +12,7 @@ use Rattle.clap.specs.declared.builder.command.Command.{Command}
 use Rattle.clap.specs.declared.parser.matches.Found.{Found}
 use Rattle.clap.proofs.WalkLemmas.{first_value-rows}
 use Rattle.clap.proofs.OnLiterals.{clap_on_literals}
-use Rattle.sr_run.specs.Command.{IsCommand, begins_with_dash, command_of, command_of_plain, command_of_two, command_of_three, Audit, make_of, one_of, steps_of}
+use Rattle.sr_run.specs.Command.{IsCommand, begins_with_dash, command_of, command_of_plain, command_of_two, command_of_three, Audit, Replay, make_of, one_of, steps_of}
 use Rattle.sr_run.specs.Parting.{before, command_of_form, form_of, parts_of, program, texts, values_of, with_arguments, with_forms}
 
 -- the library takes these words, and its parts are the words
@@ -81,7 +81,20 @@ unfolding clap_on_literals
 audit_same [] e = refl
 audit_same (x ∷ script) e = simp e
 
--- the command of one argument
+replay_taken : (script : List ℕ) → begins_with_dash script ≡ false → takes program (codes "replay" ∷ script ∷ []) ≡ true
+unfolding clap_on_literals
+replay_taken [] e = refl
+replay_taken (x ∷ script) e = simp e
+
+replay_same : (script : List ℕ) → begins_with_dash script ≡ false → parts_of (subcommand_of program (codes "replay" ∷ script ∷ [])) ≡ codes "replay" ∷ script ∷ []
+unfolding clap_on_literals
+replay_same [] e = refl
+replay_same (x ∷ script) e = simp e
+
+-- the commands of one argument
+replay_parts : (script : List ℕ) → begins_with_dash script ≡ false → Parts (codes "replay" ∷ script ∷ [])
+replay_parts script e = record { taken = replay_taken script e; same = replay_same script e }
+
 audit_parts : (script : List ℕ) → begins_with_dash script ≡ false → Parts (codes "audit" ∷ script ∷ [])
 audit_parts script e = record { taken = audit_taken script e; same = audit_same script e }
 
@@ -100,11 +113,16 @@ named : (name known : List ℕ) (arguments : List (List ℕ)) → bytes_eq name 
 named name known arguments e parts = subst (λ n. Parts (n ∷ arguments)) (sym ((bytes_eq-Decides name known).0 e)) parts
 
 two_parts : (name script : List ℕ) → begins_with_dash script ≡ false → IsSome (command_of_two name script) → Parts (name ∷ script ∷ [])
-two_parts name script e some = is_audit (bytes_eq name (codes "audit")) refl some
+two_parts name script e some = is_replay (bytes_eq name (codes "replay")) refl some
   where
     is_audit : (b : Bool) → bytes_eq name (codes "audit") ≡ b → IsSome (cond b (Some (Audit script)) None) → Parts (name ∷ script ∷ [])
     is_audit true same some = named name (codes "audit") (script ∷ []) same (audit_parts script e)
     is_audit false other some = absurd (false≢true some)
+
+    is_replay : (b : Bool) → bytes_eq name (codes "replay") ≡ b
+        → IsSome (cond b (Some (Replay script)) (cond (bytes_eq name (codes "audit")) (Some (Audit script)) None)) → Parts (name ∷ script ∷ [])
+    is_replay true same some = named name (codes "replay") (script ∷ []) same (replay_parts script e)
+    is_replay false other some = is_audit (bytes_eq name (codes "audit")) refl some
 
 three_parts : (name first second : List ℕ) → begins_with_dash first ≡ false → begins_with_dash second ≡ false
     → IsSome (command_of_three name first second) → Parts (name ∷ first ∷ second ∷ [])

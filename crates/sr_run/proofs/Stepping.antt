@@ -1,4 +1,4 @@
--- What each status of the command `steps` says, put together from its parts.
+-- What each status of a command that plays a capture says, put together from its parts.
 use Rattle.std.proofs.Common.{◌≡◌, ℕ, List, [], Option, Some, None, Result, Ok, Err, refl, sym, ap, subst, inl, inr}
 use Rattle.sr_base.specs.Key.{KeyView}
 use Rattle.sr_capture.specs.Capture.{Keeps, Reads, capture_of}
@@ -10,8 +10,11 @@ use Rattle.sr_io.specs.Sink.{SinkKnown, Adds}
 use Rattle.sr_io.specs.Source.{SourceKnown}
 use Rattle.sr_io.proofs.Adding.{adds_nothing}
 use Rattle.sr_io.proofs.Counting.{counts_as, counts_none}
+use Rattle.sr_inv_entered.specs.Entered.{AreTakable}
 use Rattle.sr_law.proofs.Kept.{kept}
 use Rattle.sr_law.proofs.Switches.{newer}
+use Rattle.sr_law.specs.Lawful.{IsLawful}
+use Rattle.sr_law.specs.declared.line.Line.{Line}
 use Rattle.sr_pcap.specs.declared.begin_refusal.BeginRefusal.{BeginRefusal}
 use Rattle.sr_pcap.specs.declared.begin_refusal.BeginRefusal.TheVariants as begin
 use Rattle.sr_rounds.specs.declared.timed.Timed.{Timed}
@@ -19,29 +22,32 @@ use Rattle.sr_script.specs.Fitting.{IsFitting}
 use Rattle.sr_script.specs.Spelled.{Spelled}
 use Rattle.sr_script.specs.declared.script.Script.{Script as AScript}
 use Rattle.sr_script.specs.declared.refusal.ScriptRefusal.{ScriptRefusal}
+use Rattle.sr_scripted.specs.Config.{config_of}
 use Rattle.sr_run.specs.Capture.{header_refusal, status_without}
 use Rattle.sr_run.proofs.Taking.{takable}
 use Rattle.sr_run.specs.LawfulLog.{IsLawfulLog}
 use Rattle.sr_run.specs.Outside.{Outside, WritesNothing}
 use Rattle.sr_run.specs.ScriptText.{IsScript, Fetches, IsReady}
-use Rattle.sr_run.specs.Steps.{EndsCapture, EndsSteps, IsLogOf, IsRunOf, PlaysCapture, PlaysCaptured, StepsSay, status_after, steps_packets, steps_setup, steps_skips, timed}
+use Rattle.sr_run.specs.Played.{EndsCapture, EndsPlay, IsLogOf, IsRunOf, MadeBy, PlaysCapture, PlaysCaptured, PlaySays, status_after, played_packets, played_setup, played_skips, timed}
 use Rattle.sr_run.specs.declared.status.Status.{Status}
+use Rattle.sr_run.specs.declared.way.Way.{Way}
+use Rattle.sr_run.specs.declared.way.Way.TheVariants as ways
 use Rattle.sr_run.specs.declared.status.Status.TheVariants.{Done, Usage, Script, Capture, ReadFault, WriteFault, Memory, Waiting, Breach}
 
 -- ---- a capture that was not read
 
-refused_header : (why : BeginRefusal) (s : Spelled) (seed : ℕ) (xs : List ℕ) (source : SourceKnown) (sink : SinkKnown) → capture_of xs ≡ Err why
-    → PlaysCapture (Capture (header_refusal why)) s seed xs source sink sink
-refused_header why s seed xs source sink refused = inl (why, refused, refl, adds_nothing sink.taken)
+refused_header : (why : BeginRefusal) (s : Spelled) (way : Way) (xs : List ℕ) (source : SourceKnown) (sink : SinkKnown) → capture_of xs ≡ Err why
+    → PlaysCapture (Capture (header_refusal why)) s way xs source sink sink
+refused_header why s way xs source sink refused = inl (why, refused, refl, adds_nothing sink.taken)
 
-pub plays_unread : (why : BeginRefusal) (s : Spelled) (seed : ℕ) (xs : List ℕ) (source : SourceKnown) (sink : SinkKnown) → Reads timed (Err why) s.vips xs source.left
-    → PlaysCapture (status_without why) s seed xs source sink sink
-plays_unread (begin.Truncated offset) s seed xs source sink read = refused_header (begin.Truncated offset) s seed xs source sink read
-plays_unread begin.Magic s seed xs source sink read = refused_header begin.Magic s seed xs source sink read
-plays_unread begin.Major s seed xs source sink read = refused_header begin.Major s seed xs source sink read
-plays_unread begin.LinkType s seed xs source sink read = refused_header begin.LinkType s seed xs source sink read
-plays_unread begin.ReadFault s seed xs source sink read = adds_nothing sink.taken
-plays_unread begin.Memory s seed xs source sink read = adds_nothing sink.taken
+pub plays_unread : (why : BeginRefusal) (s : Spelled) (way : Way) (xs : List ℕ) (source : SourceKnown) (sink : SinkKnown) → Reads timed (Err why) s.vips xs source.left
+    → PlaysCapture (status_without why) s way xs source sink sink
+plays_unread (begin.Truncated offset) s way xs source sink read = refused_header (begin.Truncated offset) s way xs source sink read
+plays_unread begin.Magic s way xs source sink read = refused_header begin.Magic s way xs source sink read
+plays_unread begin.Major s way xs source sink read = refused_header begin.Major s way xs source sink read
+plays_unread begin.LinkType s way xs source sink read = refused_header begin.LinkType s way xs source sink read
+plays_unread begin.ReadFault s way xs source sink read = adds_nothing sink.taken
+plays_unread begin.Memory s way xs source sink read = adds_nothing sink.taken
 
 pub unread_ends : (why : BeginRefusal) → EndsCapture (status_without why)
 unread_ends (begin.Truncated offset) = tt
@@ -53,26 +59,33 @@ unread_ends begin.Memory = tt
 
 -- ---- a capture that was read, and played
 
-module _ (s : Spelled) (seed : ℕ) (xs : List ℕ) (captured : Captured Timed) (records : Records) (taken : capture_of xs ≡ Ok records)
+-- the lines are lawful in whichever way they are made
+made_lawful : (way : Way) (s : Spelled) (records : Records) (lines : List Line) (awaited : Option KeyView)
+    → MadeBy way s (played_packets s records) lines awaited → AreTakable (config_of s) (played_packets s records)
+    → IsLawful (played_setup s records) lines
+made_lawful (ways.Picked seed) s records lines awaited h = h.lawful
+made_lawful ways.InOrder s records lines awaited h = h.lawful
+
+module _ (s : Spelled) (way : Way) (xs : List ℕ) (captured : Captured Timed) (records : Records) (taken : capture_of xs ≡ Ok records)
     (source : SourceKnown) (keeps : Keeps timed s.vips records source.left captured) (fits : IsFitting s) where
   -- a log of the run has lawful lines
-  lawful_log : (awaited : Option KeyView) (log : List ℕ) → IsLogOf s seed (steps_skips s records) (steps_packets s records) awaited log
-      → IsLawfulLog (steps_setup s records) (steps_skips s records) log
+  lawful_log : (awaited : Option KeyView) (log : List ℕ) → IsLogOf s way (played_skips s records) (played_packets s records) awaited log
+      → IsLawfulLog (played_setup s records) (played_skips s records) log
   lawful_log awaited log is =
-      let h = is.plays.lawful (takable s xs records fits taken) in
+      let h = made_lawful way s records is.lines awaited is.plays (takable s xs records fits taken) in
       record { lines = is.lines; printed = is.printed; lawful = h; kept = kept _ _ is.lines h.0; newer = newer _ _ is.lines h.0 }
 
   -- the log of what was kept is that of the run
-  run_of : (awaited : Option KeyView) (log : List ℕ) → IsLogOf s seed captured.skips.items captured.packets.items awaited log
-      → IsRunOf s seed xs captured.ending awaited log
+  run_of : (awaited : Option KeyView) (log : List ℕ) → IsLogOf s way captured.skips.items captured.packets.items awaited log
+      → IsRunOf s way xs captured.ending awaited log
   run_of awaited log is =
-      let whole = subst (λ k. IsLogOf s seed k (steps_packets s records) awaited log) keeps.skips
-      (subst (λ k. IsLogOf s seed captured.skips.items k awaited log) keeps.packets is) in
+      let whole = subst (λ k. IsLogOf s way k (played_packets s records) awaited log) keeps.skips
+      (subst (λ k. IsLogOf s way captured.skips.items k awaited log) keeps.packets is) in
       record { records = records; taken = taken; ended = sym keeps.ending; is_log = whole; lawful = lawful_log awaited log whole }
 
   run_with : (ending : Option CaptureRefusal) (awaited : Option KeyView) (log : List ℕ) → captured.ending ≡ ending
-      → IsLogOf s seed captured.skips.items captured.packets.items awaited log → IsRunOf s seed xs ending awaited log
-  run_with ending awaited log e is = subst (λ k. IsRunOf s seed xs k awaited log) e (run_of awaited log is)
+      → IsLogOf s way captured.skips.items captured.packets.items awaited log → IsRunOf s way xs ending awaited log
+  run_with ending awaited log e is = subst (λ k. IsRunOf s way xs k awaited log) e (run_of awaited log is)
 
   -- a status that says how the capture ended and what is waited for
   done_from : (ending : Option CaptureRefusal) (awaited : Option KeyView) → Done ≡ status_after ending awaited → (ending ≡ None) × (awaited ≡ None)
@@ -92,19 +105,19 @@ module _ (s : Spelled) (seed : ℕ) (xs : List ℕ) (captured : Captured Timed) 
   refused_from why None (Some key) e = absurd cc
   refused_from why (Some other) awaited e = cc
 
-  pub plays_read : (status : Status) (before after : SinkKnown) → PlaysCaptured status s seed captured before after
-      → PlaysCapture status s seed xs source before after
+  pub plays_read : (status : Status) (before after : SinkKnown) → PlaysCaptured status s way captured before after
+      → PlaysCapture status s way xs source before after
   plays_read Done before after plays =
       let is = done_from captured.ending plays.0 plays.3 in (
         plays.1,
-        run_with None None plays.1 is.0 (subst (λ k. IsLogOf s seed captured.skips.items captured.packets.items k plays.1) is.1 plays.2),
+        run_with None None plays.1 is.0 (subst (λ k. IsLogOf s way captured.skips.items captured.packets.items k plays.1) is.1 plays.2),
         keeps.all is.0,
         plays.4.taken,
       )
   plays_read (Waiting key) before after plays =
       let is = waiting_from key captured.ending plays.0 plays.3 in (
         plays.1,
-        run_with None (Some key) plays.1 is.0 (subst (λ k. IsLogOf s seed captured.skips.items captured.packets.items k plays.1) is.1 plays.2),
+        run_with None (Some key) plays.1 is.0 (subst (λ k. IsLogOf s way captured.skips.items captured.packets.items k plays.1) is.1 plays.2),
         keeps.all is.0,
         plays.4.taken,
       )
@@ -118,63 +131,63 @@ module _ (s : Spelled) (seed : ℕ) (xs : List ℕ) (captured : Captured Timed) 
   plays_read ReadFault before after plays = absurd plays
   plays_read (Breach line what) before after plays = absurd plays
 
-pub played_ends : (status : Status) (s : Spelled) (seed : ℕ) (captured : Captured Timed) (before after : SinkKnown) → PlaysCaptured status s seed captured before after
+pub played_ends : (status : Status) (s : Spelled) (way : Way) (captured : Captured Timed) (before after : SinkKnown) → PlaysCaptured status s way captured before after
     → EndsCapture status
-played_ends Done s seed captured before after plays = tt
-played_ends (Waiting key) s seed captured before after plays = tt
-played_ends (Capture why) s seed captured before after plays = tt
-played_ends WriteFault s seed captured before after plays = tt
-played_ends Memory s seed captured before after plays = tt
-played_ends Usage s seed captured before after plays = absurd plays
-played_ends (Script refusal) s seed captured before after plays = absurd plays
-played_ends ReadFault s seed captured before after plays = absurd plays
-played_ends (Breach line what) s seed captured before after plays = absurd plays
+played_ends Done s way captured before after plays = tt
+played_ends (Waiting key) s way captured before after plays = tt
+played_ends (Capture why) s way captured before after plays = tt
+played_ends WriteFault s way captured before after plays = tt
+played_ends Memory s way captured before after plays = tt
+played_ends Usage s way captured before after plays = absurd plays
+played_ends (Script refusal) s way captured before after plays = absurd plays
+played_ends ReadFault s way captured before after plays = absurd plays
+played_ends (Breach line what) s way captured before after plays = absurd plays
 
-pub played_quiet : (status : Status) (s : Spelled) (seed : ℕ) (captured : Captured Timed) (before after : SinkKnown) → PlaysCaptured status s seed captured before after
+pub played_quiet : (status : Status) (s : Spelled) (way : Way) (captured : Captured Timed) (before after : SinkKnown) → PlaysCaptured status s way captured before after
     → WritesNothing status before after
-played_quiet Done s seed captured before after plays = tt
-played_quiet (Waiting key) s seed captured before after plays = tt
-played_quiet (Capture why) s seed captured before after plays = tt
-played_quiet WriteFault s seed captured before after plays = tt
-played_quiet Memory s seed captured before after plays = subst (λ (k : SinkKnown). Adds before.taken k.taken []) (sym plays) (adds_nothing before.taken)
-played_quiet Usage s seed captured before after plays = absurd plays
-played_quiet (Script refusal) s seed captured before after plays = absurd plays
-played_quiet ReadFault s seed captured before after plays = absurd plays
-played_quiet (Breach line what) s seed captured before after plays = absurd plays
+played_quiet Done s way captured before after plays = tt
+played_quiet (Waiting key) s way captured before after plays = tt
+played_quiet (Capture why) s way captured before after plays = tt
+played_quiet WriteFault s way captured before after plays = tt
+played_quiet Memory s way captured before after plays = subst (λ (k : SinkKnown). Adds before.taken k.taken []) (sym plays) (adds_nothing before.taken)
+played_quiet Usage s way captured before after plays = absurd plays
+played_quiet (Script refusal) s way captured before after plays = absurd plays
+played_quiet ReadFault s way captured before after plays = absurd plays
+played_quiet (Breach line what) s way captured before after plays = absurd plays
 
-pub played_counts : (status : Status) (s : Spelled) (seed : ℕ) (captured : Captured Timed) (before after : SinkKnown) → PlaysCaptured status s seed captured before after
+pub played_counts : (status : Status) (s : Spelled) (way : Way) (captured : Captured Timed) (before after : SinkKnown) → PlaysCaptured status s way captured before after
     → Counts (status ≡ WriteFault) before.faults after.faults
-played_counts Done s seed captured before after plays = counts_as (λ f. cc) (λ f. cc) plays.4.faults
-played_counts (Waiting key) s seed captured before after plays = counts_as (λ f. cc) (λ f. cc) plays.4.faults
-played_counts (Capture why) s seed captured before after plays = counts_as (λ f. cc) (λ f. cc) plays.4.faults
-played_counts WriteFault s seed captured before after plays = counts_as (λ f. refl) (λ f. refl) plays.3.faults
-played_counts Memory s seed captured before after plays =
+played_counts Done s way captured before after plays = counts_as (λ f. cc) (λ f. cc) plays.4.faults
+played_counts (Waiting key) s way captured before after plays = counts_as (λ f. cc) (λ f. cc) plays.4.faults
+played_counts (Capture why) s way captured before after plays = counts_as (λ f. cc) (λ f. cc) plays.4.faults
+played_counts WriteFault s way captured before after plays = counts_as (λ f. refl) (λ f. refl) plays.3.faults
+played_counts Memory s way captured before after plays =
     subst (λ (k : SinkKnown). Counts (Memory ≡ WriteFault) before.faults k.faults) (sym plays) (counts_none before.faults (λ f. cc))
-played_counts Usage s seed captured before after plays = absurd plays
-played_counts (Script refusal) s seed captured before after plays = absurd plays
-played_counts ReadFault s seed captured before after plays = absurd plays
-played_counts (Breach line what) s seed captured before after plays = absurd plays
+played_counts Usage s way captured before after plays = absurd plays
+played_counts (Script refusal) s way captured before after plays = absurd plays
+played_counts ReadFault s way captured before after plays = absurd plays
+played_counts (Breach line what) s way captured before after plays = absurd plays
 
-pub played_sound : (status : Status) (s : Spelled) (seed : ℕ) (captured : Captured Timed) (before after : SinkKnown) → PlaysCaptured status s seed captured before after
+pub played_sound : (status : Status) (s : Spelled) (way : Way) (captured : Captured Timed) (before after : SinkKnown) → PlaysCaptured status s way captured before after
     → status ≡ ReadFault → ⊥
-played_sound status s seed captured before after plays fault = rw fault at plays
+played_sound status s way captured before after plays fault = rw fault at plays
 
 -- ---- a script that was fetched, and the capture that was played by it
 
-pub says_played : (status : Status) (text : Option (List ℕ)) (s : Spelled) (seed : ℕ) (bytes : List ℕ) (before after : Outside) → IsScript text s
-    → PlaysCapture status s seed bytes after.source before.sink after.sink → Counts (status ≡ ReadFault) before.source.faults after.source.faults
-    → StepsSay status text seed bytes before after
-says_played Done text s seed bytes before after script plays counts = (s, script, plays)
-says_played (Waiting key) text s seed bytes before after script plays counts = (s, script, plays)
-says_played (Capture why) text s seed bytes before after script plays counts = (s, script, plays)
-says_played WriteFault text s seed bytes before after script plays counts = (s, script, plays)
-says_played ReadFault text s seed bytes before after script plays counts = (plays, inr (s, script, counts.rose refl))
-says_played Memory text s seed bytes before after script plays counts = plays
-says_played Usage text s seed bytes before after script plays counts = absurd plays
-says_played (Script refusal) text s seed bytes before after script plays counts = absurd plays
-says_played (Breach line what) text s seed bytes before after script plays counts = absurd plays
+pub says_played : (status : Status) (text : Option (List ℕ)) (s : Spelled) (way : Way) (bytes : List ℕ) (before after : Outside) → IsScript text s
+    → PlaysCapture status s way bytes after.source before.sink after.sink → Counts (status ≡ ReadFault) before.source.faults after.source.faults
+    → PlaySays status text way bytes before after
+says_played Done text s way bytes before after script plays counts = (s, script, plays)
+says_played (Waiting key) text s way bytes before after script plays counts = (s, script, plays)
+says_played (Capture why) text s way bytes before after script plays counts = (s, script, plays)
+says_played WriteFault text s way bytes before after script plays counts = (s, script, plays)
+says_played ReadFault text s way bytes before after script plays counts = (plays, inr (s, script, counts.rose refl))
+says_played Memory text s way bytes before after script plays counts = plays
+says_played Usage text s way bytes before after script plays counts = absurd plays
+says_played (Script refusal) text s way bytes before after script plays counts = absurd plays
+says_played (Breach line what) text s way bytes before after script plays counts = absurd plays
 
-pub ends_played : (status : Status) → EndsCapture status → EndsSteps status
+pub ends_played : (status : Status) → EndsCapture status → EndsPlay status
 ends_played Done ends = tt
 ends_played (Waiting key) ends = tt
 ends_played (Capture why) ends = tt
@@ -189,22 +202,22 @@ pub no_script_refusal : (status : Status) → EndsCapture status → (refusal : 
 no_script_refusal status ends refusal e = rw e at ends
 
 -- no script: the shelf failed, the text was refused, or no memory was found
-pub says_unscripted : (status : Status) (text : Option (List ℕ)) (seed : ℕ) (bytes : List ℕ) (before after : Outside) → Fetches (Err status) text → after.sink ≡ before.sink
-    → Counts (◌≡◌ {A = Result AScript Status} (Err status) (Err ReadFault)) before.shelf.faults after.shelf.faults → StepsSay status text seed bytes before after
-says_unscripted (Script refusal) text seed bytes before after fetched sink counts =
+pub says_unscripted : (status : Status) (text : Option (List ℕ)) (way : Way) (bytes : List ℕ) (before after : Outside) → Fetches (Err status) text → after.sink ≡ before.sink
+    → Counts (◌≡◌ {A = Result AScript Status} (Err status) (Err ReadFault)) before.shelf.faults after.shelf.faults → PlaySays status text way bytes before after
+says_unscripted (Script refusal) text way bytes before after fetched sink counts =
     (fetched, subst (λ (k : SinkKnown). Adds before.sink.taken k.taken []) (sym sink) (adds_nothing before.sink.taken))
-says_unscripted ReadFault text seed bytes before after fetched sink counts =
+says_unscripted ReadFault text way bytes before after fetched sink counts =
     (subst (λ (k : SinkKnown). Adds before.sink.taken k.taken []) (sym sink) (adds_nothing before.sink.taken), inl (counts.rose refl))
-says_unscripted Memory text seed bytes before after fetched sink counts =
+says_unscripted Memory text way bytes before after fetched sink counts =
     subst (λ (k : SinkKnown). Adds before.sink.taken k.taken []) (sym sink) (adds_nothing before.sink.taken)
-says_unscripted Done text seed bytes before after fetched sink counts = absurd fetched
-says_unscripted (Waiting key) text seed bytes before after fetched sink counts = absurd fetched
-says_unscripted (Capture why) text seed bytes before after fetched sink counts = absurd fetched
-says_unscripted WriteFault text seed bytes before after fetched sink counts = absurd fetched
-says_unscripted Usage text seed bytes before after fetched sink counts = absurd fetched
-says_unscripted (Breach line what) text seed bytes before after fetched sink counts = absurd fetched
+says_unscripted Done text way bytes before after fetched sink counts = absurd fetched
+says_unscripted (Waiting key) text way bytes before after fetched sink counts = absurd fetched
+says_unscripted (Capture why) text way bytes before after fetched sink counts = absurd fetched
+says_unscripted WriteFault text way bytes before after fetched sink counts = absurd fetched
+says_unscripted Usage text way bytes before after fetched sink counts = absurd fetched
+says_unscripted (Breach line what) text way bytes before after fetched sink counts = absurd fetched
 
-pub ends_unscripted : (status : Status) → IsReady (Err status) → EndsSteps status
+pub ends_unscripted : (status : Status) → IsReady (Err status) → EndsPlay status
 ends_unscripted (Script refusal) ready = tt
 ends_unscripted ReadFault ready = tt
 ends_unscripted Memory ready = tt

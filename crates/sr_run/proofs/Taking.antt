@@ -15,7 +15,7 @@ use Rattle.sr_inv_entered.specs.Entered.{AreTakable, MayEnter, given}
 use Rattle.sr_pcap.specs.declared.begin_refusal.BeginRefusal.{BeginRefusal}
 use Rattle.sr_rounds.specs.declared.timed.Timed.{Timed}
 use Rattle.sr_run.proofs.FrameVips.{packets_within}
-use Rattle.sr_run.specs.Steps.{steps_packets, timed}
+use Rattle.sr_run.specs.Played.{played_packets, timed}
 use Rattle.sr_script.specs.Fitting.{IsFitting}
 use Rattle.sr_script.specs.Spelled.{Spelled}
 use Rattle.sr_scripted.specs.Config.{config_of}
@@ -73,9 +73,9 @@ given_each P [] h = tt
 given_each P (t ∷ packets) h = (h.0, given_each P packets h.1)
 
 pub takable : (s : Spelled) (bytes : List ℕ) (records : Records) → IsFitting s → capture_of bytes ≡ Ok records
-    → AreTakable (config_of s) (steps_packets s records)
+    → AreTakable (config_of s) (played_packets s records)
 takable s bytes records f q = record {
-  each = given_each (MayEnter (config_of s)) (steps_packets s records)
+  each = given_each (MayEnter (config_of s)) (played_packets s records)
       (packets_within s.vips timed (λ (t : Timed). MayEnter (config_of s) t.packet) (λ packet ms h. lt-ltb _ _ (omega (arith, h, f.pools))) new_clock 1 records.frames);
   few = omega (arith, kept_few s.vips new_clock 1 records.frames, records_few bytes records q);
 }

@@ -9,11 +9,12 @@ use Rattle.sr_run.specs.Servers.{count_of_servers}
 use Rattle.sr_run.specs.declared.command.Command.{Command as Read}
 use Rattle.sr_run.specs.declared.command.Command.TheVariants as read
 
--- what the words ask for: an address, and how many servers share it; a number, and how many packets; the name of a script, and
--- with it the seed of a run's picks
+-- what the words ask for: an address, and how many servers share it; a number, and how many packets; the name of a script, to
+-- replay a capture by or to judge a log by, and with it the seed of a run's picks
 pub data Command : Type 0 where
   One : ℕ × ℕ → ℕ → Command
   Make : ℕ → ℕ → Command
+  Replay : List ℕ → Command
   Audit : List ℕ → Command
   Steps : List ℕ → ℕ → Command
 
@@ -29,9 +30,11 @@ make_of number packets = option_and_then (λ n. option_map (λ p. Make n p) (cou
 abbrev pub steps_of : List ℕ → List ℕ → Option Command
 steps_of script seed = option_map (λ n. Steps script n) (number_of seed)
 
--- the command of two words: audit SCRIPT
+-- the command of two words: replay SCRIPT, audit SCRIPT
 abbrev pub command_of_two : List ℕ → List ℕ → Option Command
-command_of_two name script = if bytes_eq name (codes "audit") then Some (Audit script) else None
+command_of_two name script =
+    if bytes_eq name (codes "replay") then Some (Replay script)
+    else (if bytes_eq name (codes "audit") then Some (Audit script) else None)
 
 -- the command of three words
 abbrev pub command_of_three : List ℕ → List ℕ → List ℕ → Option Command
@@ -63,6 +66,7 @@ IsCommand words = IsSome (command_of words)
 abbrev pub seen : Read → Command
 seen (read.One vip servers) = One vip servers
 seen (read.Make number packets) = Make number packets
+seen (read.Replay script) = Replay script.now
 seen (read.Audit script) = Audit script.now
 seen (read.Steps script seed) = Steps script.now seed
 
@@ -70,5 +74,6 @@ seen (read.Steps script seed) = Steps script.now seed
 abbrev pub IsInRange : Command → Type 0
 IsInRange (One vip servers) = 1 ≤ servers
 IsInRange (Make number packets) = (1 ≤ packets) × (packets ≤ most_packets)
+IsInRange (Replay script) = Unit {0}
 IsInRange (Audit script) = Unit {0}
 IsInRange (Steps script seed) = Unit {0}

@@ -8,8 +8,8 @@ pub mod Numbers
 pub mod One
 pub mod Outside
 pub mod Parting
+pub mod Played
 pub mod Printing
 pub mod ScriptText
 pub mod Servers
 pub mod Status
-pub mod Steps

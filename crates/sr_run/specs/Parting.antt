@@ -10,6 +10,7 @@ abbrev pub forms : List (List ℕ × List (List ℕ))
 forms =
     (codes "one", codes "VIP" ∷ codes "SERVERS" ∷ [])
     ∷ (codes "make", codes "N" ∷ codes "PACKETS" ∷ [])
+    ∷ (codes "replay", codes "SCRIPT" ∷ [])
     ∷ (codes "audit", codes "SCRIPT" ∷ [])
     ∷ (codes "steps", codes "SCRIPT" ∷ codes "SEED" ∷ [])
     ∷ []

@@ -26,6 +26,11 @@ pub(crate) enum Command<'a> {
         /// How many packets the capture has, 1 to 4,194,304.
         packets: u32,
     },
+    /// A script and a capture: `replay SCRIPT`.
+    Replay {
+        /// The name of the script.
+        script: &'a str,
+    },
     /// A log and a script: `audit SCRIPT`.
     Audit {
         /// The name of the script.
@@ -118,7 +123,9 @@ fn command_of_two<'a>(name: &str, script: &'a str) -> Option<Command<'a>>
     ensures value { option_map seen result ≡ command_of_two name.now script.now }
     ensures some { IfSome result (λ x. IsInRange (seen x)) }
 {
-    if name == "audit" {
+    if name == "replay" {
+        Some(Command::Replay { script })
+    } else if name == "audit" {
         Some(Command::Audit { script })
     } else {
         None

@@ -8,7 +8,7 @@
 //! | `one`, with `print_log` | the command `one`: a whole capture is read (`sr_capture`), then printed |
 //! | `make_capture` | the command `make` |
 //! | `audit`, with `script_text`, `numbering` | the command `audit`: the script, the log, and the records' numbers |
-//! | `steps`, with `print_lines` | the command `steps`: the script, the whole capture, its run by single steps (`sr_scripted`), then printing |
+//! | `played`, with `way`, `print_lines` | the commands `replay` and `steps`: the script, the whole capture, its run (`sr_scripted`), then printing |
 //! | `status` | how a run ends |
 #![tactic(auto)]
 
@@ -19,13 +19,14 @@ mod numbering;
 mod numbers;
 mod one;
 mod parting;
+mod played;
 mod print_lines;
 mod print_log;
 mod script_text;
 mod servers;
 mod status;
-mod steps;
 mod top;
+mod way;
 
 pub use sr_capture::CaptureRefusal;
 pub use status::Status;

@@ -11,9 +11,10 @@ use std::alloc::{AllocError, Global};
 type Form = (&'static str, &'static [&'static str]);
 
 // The commands.
-const FORMS: [Form; 4] = [
+const FORMS: [Form; 5] = [
     ("one", &["VIP", "SERVERS"]),
     ("make", &["N", "PACKETS"]),
+    ("replay", &["SCRIPT"]),
     ("audit", &["SCRIPT"]),
     ("steps", &["SCRIPT", "SEED"]),
 ];

@@ -1,11 +1,12 @@
 ghost use Rattle.std.specs.Prelude.{◌≡◌, ◌⊎◌, List, ℕ, Some, None, map, string_bytes};
 ghost use Rattle.sr_run.specs.Audit.{RunsAudit};
-ghost use Rattle.sr_run.specs.Command.{One, Make, Audit, Steps, command_of};
+ghost use Rattle.sr_run.specs.Command.{One, Make, Audit, Replay, Steps, command_of};
 ghost use Rattle.sr_run.specs.Make.{RunsMake};
 ghost use Rattle.sr_run.specs.One.{RunsOne};
 ghost use Rattle.sr_run.specs.Outside.{TellsFaults, WritesNothing, outside};
-ghost use Rattle.sr_run.specs.Steps.{RunsSteps};
+ghost use Rattle.sr_run.specs.Played.{RunsPlay};
 ghost use Rattle.sr_run.specs.declared.status.Status.TheVariants.{Usage, Script, Memory};
+ghost use Rattle.sr_run.specs.declared.way.Way.TheVariants.{Picked as ByPicks, InOrder as ByOrder};
 ghost use Rattle.sr_script.specs.declared.refusal.ScriptRefusal.{ScriptRefusal as ARefusal};
 
 use crate::Status;
@@ -13,7 +14,8 @@ use crate::audit::run_audit;
 use crate::command::{Command, read_command};
 use crate::make_capture::run_make;
 use crate::one::run_one;
-use crate::steps::run_steps;
+use crate::played::run_played;
+use crate::way::Way;
 use sr_io::{Gate, Shelf, Sink, Source};
 use std::alloc::Global;
 use std::thread::Threads;
@@ -45,8 +47,12 @@ pub fn run<R: Threads + Sync, S: Source, F: Shelf, K: Sink, G: Gate + Sync>(
         → RunsAudit script result (outside (S.known source.old) (F.known shelf.old) (K.known sink.old))
         (outside (S.known source.new) (F.known shelf.new) (K.known sink.new))
         × ((refusal : ARefusal) → result ≡ Script refusal → source.new ≡ source.old) }
+    ensures replay { (script : List ℕ) → command_of (map string_bytes words.now) ≡ Some (Replay script)
+        → RunsPlay script ByOrder result (outside (S.known source.old) (F.known shelf.old) (K.known sink.old))
+        (outside (S.known source.new) (F.known shelf.new) (K.known sink.new))
+        × ((refusal : ARefusal) → result ≡ Script refusal → source.new ≡ source.old) }
     ensures steps { (script : List ℕ) (seed : ℕ) → command_of (map string_bytes words.now) ≡ Some (Steps script seed)
-        → RunsSteps script seed result (outside (S.known source.old) (F.known shelf.old) (K.known sink.old))
+        → RunsPlay script (ByPicks seed) result (outside (S.known source.old) (F.known shelf.old) (K.known sink.old))
         (outside (S.known source.new) (F.known shelf.new) (K.known sink.new))
         × ((refusal : ARefusal) → result ≡ Script refusal → source.new ≡ source.old) }
 
@@ -61,8 +67,21 @@ pub fn run<R: Threads + Sync, S: Source, F: Shelf, K: Sink, G: Gate + Sync>(
         Ok(Some(Command::One { vip, servers })) => run_one(alloc, vip, servers, source, sink),
         Ok(Some(Command::Make { number, packets })) => run_make(number, packets, sink),
         Ok(Some(Command::Audit { script })) => run_audit(alloc, script, source, shelf, sink),
-        Ok(Some(Command::Steps { script, seed })) => run_steps(
-            alloc, script, seed, source, shelf, sink,
+        Ok(Some(Command::Replay { script })) => run_played(
+            alloc,
+            script,
+            Way::InOrder,
+            source,
+            shelf,
+            sink,
+        ),
+        Ok(Some(Command::Steps { script, seed })) => run_played(
+            alloc,
+            script,
+            Way::Picked { seed },
+            source,
+            shelf,
+            sink,
         ),
     }
 }

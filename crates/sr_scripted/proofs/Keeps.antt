@@ -2,10 +2,11 @@
 use Rattle.std.proofs.Common.{ℕ, List, Option, subst, sym, refl}
 use Rattle.sr_base.proofs.Ranges.{layout_ranges}
 use Rattle.sr_base.specs.Key.{KeyView}
-use Rattle.sr_inv_entered.proofs.Lawful.{picks_lawful}
+use Rattle.sr_inv_entered.proofs.Lawful.{acts_lawful, picks_lawful}
 use Rattle.sr_inv_entered.specs.Entered.{given}
 use Rattle.sr_inv_facts.specs.Fitted.{IsFitted}
 use Rattle.sr_inv_final.specs.Rest.{setup_with}
+use Rattle.sr_inv_runs.proofs.Picked.{acts_idle}
 use Rattle.sr_inv_runs.specs.Runs.{ArePackets}
 use Rattle.sr_law.specs.Lawful.{IsLawful}
 use Rattle.sr_law.specs.declared.line.Line.{Line}
@@ -13,7 +14,8 @@ use Rattle.sr_rounds.specs.declared.timed.Timed.{Timed}
 use Rattle.sr_script.specs.Fitting.{IsFitting}
 use Rattle.sr_script.specs.Spelled.{Spelled}
 use Rattle.sr_scripted.specs.Config.{config_of}
-use Rattle.sr_scripted.specs.Played.{LeadsTo, Plays, settled_for}
+use Rattle.sr_picks.proofs.Runs.{acts_run_reached, rounds_run_reached}
+use Rattle.sr_scripted.specs.Played.{ActsLeadTo, LeadsTo, Plays, Replays, settled_for}
 
 -- a script that is good is for a machine that may run
 pub fitted : (s : Spelled) → IsFitting s → IsFitted (config_of s)
@@ -27,3 +29,20 @@ plays s seed packets lines awaited f a h = record {
       subst (IsLawful (setup_with (config_of s) (given packets))) (sym h.all)
       (picks_lawful (config_of s) seed packets (settled_for awaited) h.state (fitted s f) a may h.runs);
 }
+
+pub replays : (s : Spelled) (packets : List Timed) (lines : List Line) (awaited : Option KeyView) → IsFitting s → ArePackets packets
+    → ActsLeadTo s packets lines awaited → Replays s packets lines awaited
+replays s packets lines awaited f a h =
+    let k = config_of s in
+    let r = settled_for awaited in record {
+      ends = record {
+        last = h.runs.state;
+        before = rounds_run_reached k packets r h.state h.runs;
+        state = h.state;
+        turns = h.runs.settles;
+        reached = acts_run_reached k packets r h.state h.runs;
+        idle = acts_idle k packets r h.state (fitted s f) a h.runs;
+        all = h.all;
+      };
+      lawful = λ may. subst (IsLawful (setup_with k (given packets))) (sym h.all) (acts_lawful k packets r h.state (fitted s f) a may h.runs);
+    }

@@ -2,7 +2,7 @@ ghost use Rattle.std.specs.Prelude.{◌≡◌, IfOk};
 ghost use Rattle.sr_inv_runs.specs.Runs.{ArePackets};
 ghost use Rattle.sr_script.specs.Fitting.{IsFitting};
 ghost use Rattle.sr_script.specs.Script.{spelled};
-ghost use Rattle.sr_scripted.specs.Played.{LeadsTo, Plays, settled_for};
+ghost use Rattle.sr_scripted.specs.Played.{ActsLeadTo, LeadsTo, Plays, Replays, settled_for};
 
 use crate::{config_of, in_order};
 use sr_base::{Key, key_ranges};
@@ -10,7 +10,7 @@ use sr_law::Line;
 use sr_machine::Settled;
 use sr_rounds::Timed;
 use sr_script::Script;
-use sr_steps::run_by_picks;
+use sr_steps::{run_by_picks, run_in_order};
 use std::alloc::{AllocError, Global};
 
 /// What is left of a run.
@@ -49,6 +49,29 @@ fn run_script(
 {
     let config = config_of(alloc, script)?;
     let run = run_by_picks(alloc, config, packets, seed)?;
+    let awaited = awaited(run.settled)?;
+    let lines = in_order(run.core.all_lines(alloc)?)?;
+    Ok(Played { lines, awaited })
+}
+
+/// The run of a script over these packets: in each round one pipe after another handles its share, each packet whole, and then the
+/// controller makes its turns.
+pub fn replay_script(alloc: Global, script: Script, packets: &[Timed]) -> Result<Played, AllocError>
+    requires { IsFitting (spelled script) }
+    ensures { IfOk result (λ played. Replays (spelled script) packets.now played.lines.items played.awaited) }
+{
+    packets_ranges(packets);
+    let played = run_in_rounds(alloc, script, packets)?;
+    Ok(played)
+}
+
+// The same, step by step.
+fn run_in_rounds(alloc: Global, script: Script, packets: &[Timed]) -> Result<Played, AllocError>
+    requires { IsFitting (spelled script) }
+    ensures { IfOk result (λ played. ActsLeadTo (spelled script) packets.now played.lines.items played.awaited) }
+{
+    let config = config_of(alloc, script)?;
+    let run = run_in_order(alloc, config, packets)?;
     let awaited = awaited(run.settled)?;
     let lines = in_order(run.core.all_lines(alloc)?)?;
     Ok(Played { lines, awaited })

@@ -1,34 +1,35 @@
-ghost use Rattle.std.specs.Prelude.{◌≡◌, length};
+ghost use Rattle.std.specs.Prelude.{◌≡◌, IfOk, length};
 ghost use Rattle.std.specs.Option.{ForSome};
 ghost use Rattle.sr_io.specs.Faults.{Counts};
 ghost use Rattle.sr_script.specs.Fitting.{IsFitting};
 ghost use Rattle.sr_script.specs.Script.{spelled};
 ghost use Rattle.sr_script.specs.declared.refusal.ScriptRefusal.{ScriptRefusal as ARefusal};
 ghost use Rattle.sr_run.specs.Outside.{TellsFaults, WritesNothing, outside};
-ghost use Rattle.sr_run.specs.Steps.{EndsCapture, PlaysCapture, PlaysCaptured, RunsSteps, status_after};
+ghost use Rattle.sr_run.specs.Played.{EndsCapture, MadeBy, PlaysCapture, PlaysCaptured, RunsPlay, status_after};
 ghost use Rattle.sr_run.specs.declared.status.Status.TheVariants as status;
 
 use crate::Status;
 use crate::print_lines::print_lines;
 use crate::script_text::fetch_script;
+use crate::way::Way;
 use sr_base::Key;
 use sr_capture::{CaptureRefusal, Captured, read_capture};
 use sr_io::{Shelf, Sink, Source};
 use sr_rounds::Timed;
 use sr_script::Script;
-use sr_scripted::play_script;
-use std::alloc::Global;
+use sr_scripted::{Played, play_script, replay_script};
+use std::alloc::{AllocError, Global};
 
-/// Runs the command `steps`: fetches the script of this name, reads the whole capture, plays it by the picks of the seed, and then prints.
-pub(crate) fn run_steps<S: Source, F: Shelf, K: Sink>(
+/// Fetches the script of this name, reads the whole capture, plays it by the script in this way, and then prints.
+pub(crate) fn run_played<S: Source, F: Shelf, K: Sink>(
     alloc: Global,
     script: &str,
-    seed: u64,
+    way: Way,
     source: &mut S,
     shelf: &mut F,
     sink: &mut K,
 ) -> Status
-    ensures steps { RunsSteps script.now seed result (outside (S.known source.old) (F.known shelf.old) (K.known sink.old))
+    ensures plays { RunsPlay script.now way result (outside (S.known source.old) (F.known shelf.old) (K.known sink.old))
         (outside (S.known source.new) (F.known shelf.new) (K.known sink.new)) }
     ensures untouched { (refusal : ARefusal) → result ≡ status.Script refusal → source.new ≡ source.old }
     ensures faults { TellsFaults result (outside (S.known source.old) (F.known shelf.old) (K.known sink.old))
@@ -36,7 +37,7 @@ pub(crate) fn run_steps<S: Source, F: Shelf, K: Sink>(
     ensures quiet { WritesNothing result (K.known sink.old) (K.known sink.new) }
 {
     match fetch_script(alloc, script, shelf) {
-        Ok(script) => play_capture(alloc, script, seed, source, sink),
+        Ok(script) => play_capture(alloc, script, way, source, sink),
         Err(status) => status,
     }
 }
@@ -45,19 +46,19 @@ pub(crate) fn run_steps<S: Source, F: Shelf, K: Sink>(
 fn play_capture<S: Source, K: Sink>(
     alloc: Global,
     script: Script,
-    seed: u64,
+    way: Way,
     source: &mut S,
     sink: &mut K,
 ) -> Status
     requires { IsFitting (spelled script) }
-    ensures log { ForSome (S.known source.old).left (λ xs. PlaysCapture result (spelled script) seed xs (S.known source.new) (K.known sink.old) (K.known sink.new)) }
+    ensures log { ForSome (S.known source.old).left (λ xs. PlaysCapture result (spelled script) way xs (S.known source.new) (K.known sink.old) (K.known sink.new)) }
     ensures ends { EndsCapture result }
     ensures quiet { WritesNothing result (K.known sink.old) (K.known sink.new) }
     ensures source { Counts (result ≡ status.ReadFault) (S.known source.old).faults (S.known source.new).faults }
     ensures sink { Counts (result ≡ status.WriteFault) (K.known sink.old).faults (K.known sink.new).faults }
 {
     match read_capture(alloc, &script.vips, source) {
-        Ok(captured) => play_captured(alloc, script, seed, &captured, sink),
+        Ok(captured) => play_captured(alloc, script, way, &captured, sink),
         Err(why) => Status::from(why),
     }
 }
@@ -66,19 +67,30 @@ fn play_capture<S: Source, K: Sink>(
 fn play_captured<K: Sink>(
     alloc: Global,
     script: Script,
-    seed: u64,
+    way: Way,
     captured: &Captured<Timed>,
     sink: &mut K,
 ) -> Status
     requires { IsFitting (spelled script) }
-    ensures { PlaysCaptured result (spelled script) seed captured.now (K.known sink.old) (K.known sink.new) }
+    ensures { PlaysCaptured result (spelled script) way captured.now (K.known sink.old) (K.known sink.new) }
 {
-    match play_script(alloc, script, &captured.packets, seed) {
+    match play_by(alloc, script, &captured.packets, way) {
         Err(_) => Status::Memory,
         Ok(played) => match print_lines(&captured.skips, &played.lines, sink) {
             Err(_) => Status::WriteFault,
             Ok(()) => status_after(captured.ending, played.awaited),
         },
+    }
+}
+
+// Plays packets by the script in this way.
+fn play_by(alloc: Global, script: Script, packets: &[Timed], way: Way) -> Result<Played, AllocError>
+    requires { IsFitting (spelled script) }
+    ensures { IfOk result (λ played. MadeBy way (spelled script) packets.now played.lines.items played.awaited) }
+{
+    match way {
+        Way::Picked { seed } => play_script(alloc, script, packets, seed),
+        Way::InOrder => replay_script(alloc, script, packets),
     }
 }
 

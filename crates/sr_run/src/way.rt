@@ -1,0 +1,11 @@
+/// How the packets of a capture are played by a script.
+#[derive(Clone, Copy, Debug, PartialEq, Eq)]
+pub(crate) enum Way {
+    /// Step by step, each step or turn picked by a generator.
+    Picked {
+        /// What the picks begin with.
+        seed: u64,
+    },
+    /// In order: in each round one pipe after another handles its share, and then the controller makes its turns.
+    InOrder,
+}
