@@ -1,1 +1,2 @@
 pub mod OwnBoards
+pub mod OwnSeats

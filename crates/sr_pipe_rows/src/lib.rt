@@ -7,3 +7,5 @@ mod longest;
 mod rows;
 #[cfg(test)]
 mod scene;
+#[cfg(test)]
+mod shared;
