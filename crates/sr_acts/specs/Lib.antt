@@ -5,5 +5,6 @@ pub mod HeldBook
 pub mod HeldController
 pub mod HeldLines
 pub mod Openers
+pub mod Rooms
 pub mod Versions
 pub mod Starts

@@ -1,4 +1,4 @@
-ghost use Rattle.std.specs.Prelude.{◌≡◌, map, replicate, ◌&&◌, is_none, ◌^◌, ◌<◌, ◌≤◌, ◌∷◌, ◌++◌, [], false, true, option_map, Some, None, IfOk, IfSome, IsSome, OnOk, if◌then◌else◌};
+ghost use Rattle.std.specs.Prelude.{◌≡◌, map, replicate, ◌&&◌, is_none, ◌+◌, ◌^◌, ◌<◌, ◌≤◌, ◌∷◌, ◌++◌, [], false, true, option_map, Some, None, IfOk, IfSome, IsSome, OnOk, if◌then◌else◌};
 ghost use Rattle.sr_base.specs.WordName.{HasWord};
 ghost use Rattle.sr_machine.specs.Controller.{controller_after, controller_op};
 ghost use Rattle.sr_machine.specs.Deciding.{in_bounds, words_taken};
@@ -8,6 +8,7 @@ ghost use Rattle.std.specs.List.{range_with_len};
 ghost use Rattle.sr_machine.specs.Opening.{opening_controller, opening_line};
 ghost use Rattle.sr_machine.specs.declared.job.Job.TheVariants.{Free};
 ghost use Rattle.sr_acts.specs.Fits.{FitsFirst};
+ghost use Rattle.sr_acts.specs.Rooms.{added};
 ghost use Rattle.sr_acts.specs.Starts.{is_free, job_for, start_for};
 ghost use Rattle.sr_machine.specs.Ops.{op_name};
 ghost use Rattle.sr_machine.specs.Starting.{begun, first_act, with_start};
@@ -161,6 +162,7 @@ impl ControllerMachine {
         requires room { 0 < self.old.room }
         ensures config { self.new.config ≡ self.old.config }
         ensures view { self.new.view ≡ controller_after self.old.config self.old.view answer }
+        ensures room { self.old.room ≤ self.new.room + added (begun self.old.config self.old.view).job }
     {
         self.begin();
         let job = self.job;
@@ -174,6 +176,7 @@ impl ControllerMachine {
         requires room { 0 < self.old.room }
         ensures config { self.new.config ≡ self.old.config }
         ensures view { self.new.view ≡ job_after self.old.config self.old.view job.now answer }
+        ensures room { self.old.room ≤ self.new.room + added job.now }
     {
         match job {
             Job::Free => {}
@@ -232,6 +235,13 @@ impl ControllerMachine {
         &self.config
     }
 
+    /// Its job.
+    pub fn job(&self) -> &Job
+        ensures { result.now ≡ self.now.view.job }
+    {
+        &self.job
+    }
+
     /// Its lines so far.
     pub fn lines(&self) -> &[Line]
         ensures { result.now ≡ self.now.view.lines }
@@ -239,16 +249,38 @@ impl ControllerMachine {
         self.lines.lines()
     }
 
-    /// Makes room for what one step adds.
-    pub fn reserve(&mut self) -> Result<(), AllocError>
+    /// The capture time that it was told last, in milliseconds.
+    pub fn clock(&self) -> Option<u64>
+        ensures { result ≡ self.now.view.clock }
+    {
+        self.updates.clock()
+    }
+
+    /// How many ticks it has drawn.
+    pub fn drawn(&self) -> u64
+        ensures { result ≡ self.now.view.drawn }
+    {
+        self.drawn
+    }
+
+    /// How many words it has taken from all rings.
+    pub fn taken(&self) -> u64
+        ensures { result ≡ words_taken self.now.view.rings }
+    {
+        words_taken(self.rings.as_slice())
+    }
+
+    /// Makes room for what so many steps add at least.
+    pub fn reserve(&mut self, steps: usize) -> Result<(), AllocError>
         ensures config { self.new.config ≡ self.old.config }
         ensures view { self.new.view ≡ self.old.view }
-        ensures room { OnOk result (0 < self.new.room) }
+        ensures room { OnOk result (steps ≤ self.new.room) }
+        ensures kept { self.old.room ≤ self.new.room }
     {
-        self.book.reserve(1)?;
-        self.held.reserve(1)?;
-        self.down.reserve(1)?;
-        self.lines.reserve(1)
+        self.book.reserve(steps)?;
+        self.held.reserve(steps)?;
+        self.down.reserve(steps)?;
+        self.lines.reserve(steps)
     }
 
     // Whether fewer than 2^56 ticks were drawn, and fewer than 2^56 words taken.
@@ -262,6 +294,7 @@ impl ControllerMachine {
     pub fn due(&mut self, ms: u64) -> bool
         ensures config { self.new.config ≡ self.old.config }
         ensures told { told_time ms self.old.view ≡ (if result then Some self.new.view else None) }
+        ensures room { self.new.room ≡ self.old.room }
         ensures same { result ≡ false → self.new ≡ self.old }
     {
         if let Some(clock) = self.updates.clock() {
@@ -278,6 +311,7 @@ impl ControllerMachine {
     pub fn refuse(&mut self) -> bool
         ensures config { self.new.config ≡ self.old.config }
         ensures told { told_to_refuse self.old.view ≡ (if result then Some self.new.view else None) }
+        ensures room { self.new.room ≡ self.old.room }
         ensures same { result ≡ false → self.new ≡ self.old }
     {
         if !self.may_refuse() {

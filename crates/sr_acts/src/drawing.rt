@@ -1,6 +1,6 @@
 //! The controller draws a tick.
 
-ghost use Rattle.std.specs.Prelude.{◌≡◌, ℕ, ◌+◌, ◌^◌, ◌<◌, ◌≤◌, option_map, true};
+ghost use Rattle.std.specs.Prelude.{◌≡◌, ℕ, ◌+◌, ◌^◌, ◌<◌, ◌≤◌, is_some, option_map, true, if◌then◌else◌};
 ghost use Rattle.std.specs.List.{AllByRecursion};
 ghost use Rattle.sr_machine.specs.Config.{Config};
 ghost use Rattle.sr_machine.specs.Deciding.{in_bounds};
@@ -9,6 +9,7 @@ ghost use Rattle.sr_machine.specs.Jobs.{job_after};
 ghost use Rattle.sr_machine.specs.declared.job.Job.TheVariants as job;
 ghost use Rattle.sr_acts.specs.Fits.{FitsDraw, FitsJob, FitsUpdate, owed, owed_draw};
 ghost use Rattle.sr_acts.specs.HeldBook.{FitsEntry};
+ghost use Rattle.sr_acts.specs.Rooms.{added_draw};
 
 use crate::asking::placed_from;
 use crate::written::Written;
@@ -26,6 +27,7 @@ impl ControllerMachine {
         requires room { 0 < self.old.room }
         ensures config { self.new.config ≡ self.old.config }
         ensures view { self.new.view ≡ job_after self.old.config self.old.view (job.Draw draw.now) tick }
+        ensures room { self.old.room ≤ self.new.room + added_draw draw.now }
     {
         let line = self.draw_line(draw, tick);
         let next = self.draw_job(draw, tick);
@@ -163,7 +165,8 @@ impl ControllerMachine {
 // Writes a line, if there is one.
 fn write(lines: &mut Written, line: Option<Line>)
     requires { 0 < lines.old.room }
-    ensures { lines.new.lines ≡ with_line lines.old.lines line }
+    ensures lines { lines.new.lines ≡ with_line lines.old.lines line }
+    ensures room { lines.old.room ≤ lines.new.room + (if is_some line then 1 else 0) }
 {
     if let Some(line) = line {
         lines.push(line);

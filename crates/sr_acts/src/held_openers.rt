@@ -40,6 +40,7 @@ impl HeldOpeners {
     pub fn reserve(&mut self, openers: usize) -> Result<(), AllocError>
         ensures openers { self.new.openers ≡ self.old.openers }
         ensures room { OnOk result (openers ≤ self.new.room) }
+        ensures kept { self.old.room ≤ self.new.room }
     {
         self.openers.reserve(openers)
     }

@@ -82,6 +82,7 @@ impl PlainBook {
         requires room { 0 < self.old.room }
         ensures layout { self.new.layout ≡ self.old.layout }
         ensures book { self.new.book ≡ with_taken key version self.old.book }
+        ensures room { self.old.room ≤ self.new.room + 1 }
     {
         if !is_registered(self.entries.as_slice(), key) {
             self.entries.push_reserved(Entry {
@@ -101,6 +102,7 @@ impl PlainBook {
     pub fn close(&mut self, key: Key)
         ensures layout { self.new.layout ≡ self.old.layout }
         ensures book { self.new.book ≡ with_closed key self.old.book }
+        ensures room { self.new.room ≡ self.old.room }
     {
         change(
             &self.layout,
@@ -116,6 +118,7 @@ impl PlainBook {
         requires { HasPlace self.old.layout.shape place }
         ensures layout { self.new.layout ≡ self.old.layout }
         ensures book { self.new.book ≡ with_settled key place self.old.book }
+        ensures room { self.new.room ≡ self.old.room }
     {
         change(
             &self.layout,
@@ -130,6 +133,7 @@ impl PlainBook {
     pub fn leave(&mut self, key: Key)
         ensures layout { self.new.layout ≡ self.old.layout }
         ensures book { self.new.book ≡ with_left key self.old.book }
+        ensures room { self.new.room ≡ self.old.room }
     {
         change(
             &self.layout,
@@ -144,6 +148,7 @@ impl PlainBook {
     pub fn sweep(&mut self, key: Key, hit: bool)
         ensures layout { self.new.layout ≡ self.old.layout }
         ensures book { self.new.book ≡ with_swept key hit self.old.book }
+        ensures room { self.new.room ≡ self.old.room }
     {
         change(
             &self.layout,
@@ -158,6 +163,7 @@ impl PlainBook {
     pub fn retire(&mut self, key: Key)
         ensures layout { self.new.layout ≡ self.old.layout }
         ensures book { self.new.book ≡ with_retired key self.old.book }
+        ensures room { self.old.room ≤ self.new.room }
     {
         self.entries.retain(|entry| !key.same(entry.key));
     }
@@ -169,6 +175,8 @@ fn change(layout: &Layout, entries: &mut Vec<Entry>, taken: u64, key: Key, how: 
     requires place { (e : AnEntry) → FitsEntry layout.now.shape taken e → FitsEntry layout.now.shape taken (changed how.now e) }
     ensures value { entries.new.items ≡ with_changed (changed how.now) key entries.old.items }
     ensures fit { AllByRecursion (FitsEntry layout.now.shape taken) entries.new.items }
+    ensures len { vec_len entries.new ≡ vec_len entries.old }
+    ensures capacity { vec_capacity entries.new ≡ vec_capacity entries.old }
 {
     let _ = layout;
     for i in 0..entries.len() {

@@ -7,6 +7,7 @@ ghost use Rattle.sr_machine.specs.declared.job.Job.TheVariants as job;
 ghost use Rattle.sr_machine.specs.declared.store.Store.TheVariants as store;
 ghost use Rattle.sr_base.specs.WordName.{filter_words};
 ghost use Rattle.sr_acts.specs.Fits.{FitsStore, FitsUpdate, owed_store};
+ghost use Rattle.sr_acts.specs.Rooms.{added_store};
 
 use crate::ControllerMachine;
 use crate::asking::version_for;
@@ -22,6 +23,7 @@ impl ControllerMachine {
         requires room { 0 < self.old.room }
         ensures config { self.new.config ≡ self.old.config }
         ensures view { (x : ℕ) → self.new.view ≡ job_after self.old.config self.old.view (job.Store store.now) x }
+        ensures room { self.old.room ≤ self.new.room + added_store store.now }
     {
         match store {
             Store::Down(_) => {
@@ -80,6 +82,7 @@ impl ControllerMachine {
         requires job { self.old.view.job ≡ job.Store (store.Filter update.now index) }
         ensures config { self.new.config ≡ self.old.config }
         ensures view { (x : ℕ) → self.new.view ≡ job_after self.old.config self.old.view (job.Store (store.Filter update.now index)) x }
+        ensures room { self.new.room ≡ self.old.room }
     {
         layout_ranges(self.config.layout());
         if is_last_filter(self.config.layout(), index) {
@@ -101,6 +104,7 @@ impl ControllerMachine {
         requires room { 0 < self.old.room }
         ensures config { self.new.config ≡ self.old.config }
         ensures view { (x : ℕ) → self.new.view ≡ job_after self.old.config self.old.view (job.Store (store.Judge put.now)) x }
+        ensures room { self.old.room ≤ self.new.room + 1 }
     {
         if self.is_withdrawn(put) {
             let reply = self.dead_reply(&put.aim);

@@ -22,6 +22,7 @@ impl ControllerMachine {
           held = (taking self.old.config self.old.view ended pipe x).held;
           book = (taking self.old.config self.old.view ended pipe x).book;
         } }
+        ensures room { self.old.room ≤ self.new.room + 1 }
     {
         if x == 0 {
             return;
@@ -68,7 +69,8 @@ fn count_after(punt: bool, count: RingCount) -> RingCount
 // The report of a held opener comes to the held ones.
 fn hold(held: &mut HeldOpeners, pipe: u8, punts: u32, report: &Option<RingWord>)
     requires { 0 < held.old.room }
-    ensures { held.new.openers ≡ held_after pipe punts held.old.openers report.now }
+    ensures openers { held.new.openers ≡ held_after pipe punts held.old.openers report.now }
+    ensures room { held.old.room ≤ held.new.room + 1 }
 {
     if let Some(word) = report {
         if is_punt(word.kind, punts) {
@@ -103,6 +105,7 @@ fn register(
     ensures layout { book.new.layout ≡ book.old.layout }
     ensures book { book.new.book ≡ book_after versions.now.numbers ended book.old.book report.now }
     ensures taken { book.new.book.taken ≤ book.old.book.taken + 1 }
+    ensures room { book.old.room ≤ book.new.room + 1 }
 {
     let Some(word) = report else {
         return;

@@ -24,6 +24,7 @@ impl ControllerMachine {
         requires job { self.old.view.job ≡ job.Pass grace pipe wait.now }
         ensures config { self.new.config ≡ self.old.config }
         ensures view { self.new.view ≡ job_after self.old.config self.old.view (job.Pass grace pipe wait.now) x }
+        ensures room { self.new.room ≡ self.old.room }
     {
         self.job = pass_job(&self.config, grace, pipe, wait, x);
     }
@@ -35,6 +36,7 @@ impl ControllerMachine {
         requires room { 0 < self.old.room }
         ensures config { self.new.config ≡ self.old.config }
         ensures view { self.new.view ≡ job_after self.old.config self.old.view (job.Drain pipe count wait.now) x }
+        ensures room { self.old.room ≤ self.new.room + 1 }
     {
         let _ = &self.job;
         self.take(ended_by(wait), pipe, x);
@@ -77,6 +79,7 @@ impl ControllerMachine {
         requires room { 0 < self.old.room }
         ensures config { self.new.config ≡ self.old.config }
         ensures view { self.new.view ≡ job_after self.old.config self.old.view (job.Look pipe) x }
+        ensures room { self.old.room ≤ self.new.room + 1 }
     {
         let _ = &self.job;
         self.take(None, pipe, x);
@@ -88,6 +91,7 @@ impl ControllerMachine {
         requires job { self.old.view.job ≡ job.Hit from ms key place taken }
         ensures config { self.new.config ≡ self.old.config }
         ensures view { self.new.view ≡ job_after self.old.config self.old.view (job.Hit from ms key place taken) x }
+        ensures room { self.new.room ≡ self.old.room }
     {
         self.book.sweep(key, read_flag(x));
         self.job = sweeping(&self.config, &self.book, from, ms, taken + 1);

@@ -33,6 +33,7 @@ impl Written {
     pub(crate) fn reserve(&mut self, lines: usize) -> Result<(), AllocError>
         ensures lines { self.new.lines ≡ self.old.lines }
         ensures room { OnOk result (lines ≤ self.new.room) }
+        ensures kept { self.old.room ≤ self.new.room }
     {
         self.lines.reserve(lines)
     }
@@ -47,7 +48,8 @@ impl Written {
     // One more is written.
     pub(crate) fn push(&mut self, line: Line)
         requires { 0 < self.old.room }
-        ensures { self.new.lines ≡ self.old.lines ++ line ∷ [] }
+        ensures lines { self.new.lines ≡ self.old.lines ++ line ∷ [] }
+        ensures room { self.new.room ≡ self.old.room - 1 }
     {
         // The check finds a type that a line holds only where the function names it.
         let _: Option<Verdict> = None;

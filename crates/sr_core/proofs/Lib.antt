@@ -1,4 +1,5 @@
 mod FirstPools
+pub mod MoreSteps
 mod Places
 mod Rooms
 pub mod Showing

@@ -114,7 +114,7 @@ impl Core {
     {
         match self.controller.next() {
             Some(op) => {
-                if self.controller.reserve().is_err() {
+                if self.controller.reserve(1).is_err() {
                     return Controlled::Memory;
                 }
                 let answer = self.words.make(op);

@@ -1,27 +1,23 @@
 -- Steps that follow one another.
-use Rattle.std.proofs.Common.{◌≡◌, ◌∙◌, ℕ, ◌++◌, false, List, [], ◌∷◌, Option, Some, None, refl, sym, ap, subst}
+use Rattle.std.proofs.Common.{◌≡◌, ◌∙◌, ℕ, ◌++◌, false, List, [], ◌∷◌, Option, Some, refl, sym, ap, subst}
 use Rattle.sr_base.specs.Layout.{LayoutView}
+use Rattle.sr_core.proofs.MoreSteps.{before_more, shows_more}
 use Rattle.sr_core.specs.HeldPipe.{HeldPipe}
+use Rattle.sr_core.specs.Making.{Made, ShowsSteps, made_before}
 use Rattle.sr_machine.specs.Boards.{Beside, FitsAfter, IsNext, ShowsAfter}
 use Rattle.sr_machine.specs.Config.{Config}
-use Rattle.sr_machine.specs.Ops.{op_words}
 use Rattle.sr_machine.specs.Pipe.{is_idle, pipe_after, pipe_op}
-use Rattle.sr_machine.specs.declared.name.Name.{Name}
 use Rattle.sr_machine.specs.declared.op.Op.{Op}
 use Rattle.sr_machine.specs.declared.pipe_view.PipeView.{PipeView}
 use Rattle.sr_machine.specs.declared.view.View.{View}
 use Rattle.sr_machine.specs.declared.view.View.TheVariants.{OfPipe}
 use Rattle.sr_pipe.specs.Known.{Goes, IsFor, Known}
-use Rattle.sr_pipe.specs.Steps.{AnsweredBy, AreSteps, Made, ShowsSteps, made_before, steps_made, view_after_all, words_after}
+use Rattle.sr_pipe.specs.Steps.{AreSteps, steps_made, view_after_all}
 
 module _ (l : LayoutView) where
   view_more : (v : PipeView) (xs ys : List ℕ) → view_after_all l v (xs ++ ys) ≡ view_after_all l (view_after_all l v xs) ys
   view_more v [] ys = refl
   view_more v (x ∷ xs) ys = view_more (pipe_after l v v.stage x) xs ys
-
-  before_more : (o : Option Op) (x : ℕ) (a b : List Made) → made_before o x (a ++ b) ≡ made_before o x a ++ b
-  before_more None x a b = refl
-  before_more (Some op) x a b = refl
 
   steps_more : (v : PipeView) (xs ys : List ℕ)
       → steps_made l v (xs ++ ys) ≡ steps_made l v xs ++ steps_made l (view_after_all l v xs) ys
@@ -34,21 +30,6 @@ module _ (l : LayoutView) where
   each_more : (v : PipeView) (xs ys : List ℕ) → AreSteps l v xs → AreSteps l (view_after_all l v xs) ys → AreSteps l v (xs ++ ys)
   each_more v [] ys a b = b
   each_more v (x ∷ xs) ys a b = (a.0, each_more (pipe_after l v v.stage x) xs ys a.1 b)
-
-answered_more : (words : Name → ℕ) (a b : List Made) → AnsweredBy words a → AnsweredBy (words_after words a) b → AnsweredBy words (a ++ b)
-answered_more words [] b p q = q
-answered_more words (m ∷ a) b p q = (p.0, answered_more (op_words words m.op) a b p.1 q)
-
-words_more : (words : Name → ℕ) (a b : List Made) → words_after words (a ++ b) ≡ words_after (words_after words a) b
-words_more words [] b = refl
-words_more words (m ∷ a) b = words_more (op_words words m.op) a b
-
-module _ (old mid new : (Name → ℕ) → Type 0) (a b : List Made) where
-  shows_more : ShowsSteps old a mid → ShowsSteps mid b new → ShowsSteps old (a ++ b) new
-  shows_more p q words s =
-      let first = p words s in
-      let second = q (words_after words a) first.1 in
-      (answered_more words a b first.0 second.0, subst new (sym (words_more words a b)) second.1)
 
 -- steps and then more of them
 pub goes_on : (l : LayoutView) (a b c : Known) (u v w : PipeView) → Goes l a u b v → Goes l b v c w → Goes l a u c w

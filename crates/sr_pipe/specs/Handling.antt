@@ -10,7 +10,8 @@ use Rattle.sr_machine.specs.declared.pipe_view.PipeView.{PipeView}
 use Rattle.sr_machine.specs.declared.stage.Stage.TheVariants.{Enter}
 use Rattle.sr_pipe.specs.Causes.{HasCause}
 use Rattle.sr_pipe.specs.Known.{FitsThen, Known}
-use Rattle.sr_pipe.specs.Steps.{AreSteps, ShowsSteps, steps_made, view_after_all}
+use Rattle.sr_core.specs.Making.{ShowsSteps}
+use Rattle.sr_pipe.specs.Steps.{AreSteps, steps_made, view_after_all}
 use Rattle.sr_pipe.specs.Told.{told_by}
 
 -- what a pipe knows once a packet has entered

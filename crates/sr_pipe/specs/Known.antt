@@ -11,7 +11,8 @@ use Rattle.sr_machine.specs.declared.stage.Stage.{Stage}
 use Rattle.sr_machine.specs.declared.stage.Stage.TheVariants.{Idle}
 use Rattle.sr_machine.specs.declared.view.View.{View}
 use Rattle.sr_machine.specs.declared.view.View.TheVariants.{OfPipe}
-use Rattle.sr_pipe.specs.Steps.{AreSteps, ShowsSteps, steps_made, view_after_all}
+use Rattle.sr_core.specs.Making.{ShowsSteps}
+use Rattle.sr_pipe.specs.Steps.{AreSteps, steps_made, view_after_all}
 
 pub record Known : Type 1 where
   -- the views that it fits

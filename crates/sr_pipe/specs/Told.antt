@@ -5,13 +5,13 @@ use Rattle.sr_base.specs.Layout.{LayoutView}
 use Rattle.sr_base.specs.declared.vip_word.Phase.{Phase}
 use Rattle.sr_base.specs.declared.vip_word.Phase.TheVariants.{Holding, Transit}
 use Rattle.sr_base.specs.declared.vip_word.VipWord.{VipWord}
+use Rattle.sr_core.specs.Making.{Made}
 use Rattle.sr_machine.specs.Reads.{has_bit, read_flag, read_vip, says}
 use Rattle.sr_machine.specs.declared.name.Name.TheVariants.{Entry, Vip, Filter, Down, Ring}
 use Rattle.sr_machine.specs.declared.op.Op.{Op}
 use Rattle.sr_machine.specs.declared.op.Op.TheVariants.{Loads}
 use Rattle.sr_machine.specs.declared.said.Said.{Said}
 use Rattle.sr_machine.specs.declared.said.Said.TheVariants.{Nothing, Reserved, Live}
-use Rattle.sr_pipe.specs.Steps.{Made}
 
 pub record Told : Type 0 where
   -- a row or a cell was taken for the key's, reserved or live

@@ -8,5 +8,5 @@ use Rattle.sr_acts.proofs.controller_machine.opening_lines.Goals as goal
 pub loop-vip-preserved : goal.loop-vip-preserved
 loop-vip-preserved c =
     let e : 0 + c.loop-vip.vip ≡ c.loop-vip.vip = omega arith in
-    c.push.ensures ∙ ap (λ (xs : List Line). xs ++ c.opening_line.result ∷ []) (c.in_ok-reserve.ensures.lines ∙ c.loop-vip.invariant)
+    c.push.ensures.lines ∙ ap (λ (xs : List Line). xs ++ c.opening_line.result ∷ []) (c.in_ok-reserve.ensures.lines ∙ c.loop-vip.invariant)
     ∙ ap (λ (x : Line). map opening_line (range_with_len 0 c.loop-vip.vip) ++ x ∷ []) c.opening_line.ensures ∙ sym (map-range_with_len_more opening_line 0 c.loop-vip.vip c.loop-vip.vip e)

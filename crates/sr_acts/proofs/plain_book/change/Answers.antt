@@ -14,6 +14,7 @@ loop-i-preserved c =
           ∙ map_over_more (λ e. cond (is_of c.args.key e) (changed c.args.how.now e) e) c.args.entries.now.items c.loop-i.entries.items c.loop-i.i
           c.index.result.now within c.loop-i.invariant.0 c.index.ensures,
       c.loop-i.invariant.1,
+      c.loop-i.invariant.2,
     )
 
 pub returns-clause-fit : goal.returns-clause-fit

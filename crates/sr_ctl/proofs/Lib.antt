@@ -1,0 +1,6 @@
+mod Endings
+mod Going
+mod Laws
+mod Reasons
+mod Telling
+mod Turning
