@@ -1,5 +1,7 @@
 -- What is proved of the end of a run, however its turns were come to: nothing is left to do, or an update waits for a key, as the turns say; so the lines are settled.
 use Rattle.std.specs.Prelude.{◌≡◌, ℕ, true, List, [], ◌∷◌, if◌then◌else◌, None, Option, Some}
+use Rattle.sr_base.specs.Key.{KeyView}
+use Rattle.sr_base.specs.declared.change.Change.{Change}
 use Rattle.sr_inv_facts.specs.Fitted.{IsFitted}
 use Rattle.sr_inv_facts.specs.InCauses.{setup_of}
 use Rattle.sr_inv_facts.specs.Invariant.{Invariant}
@@ -10,6 +12,8 @@ use Rattle.sr_inv_runs.specs.Runs.{ArePackets}
 use Rattle.sr_inv_settled.specs.Laws.{SettledWaiting}
 use Rattle.sr_inv_settled.specs.Quiet.{IsQuiet, IsWaiting}
 use Rattle.sr_law.specs.Settled.{is_settled}
+use Rattle.sr_law.specs.Setup.{SetupView}
+use Rattle.sr_law.specs.declared.line.Line.{Line}
 use Rattle.sr_machine.specs.Config.{Config}
 use Rattle.sr_machine.specs.Core.{Core, lines_of}
 use Rattle.sr_machine.specs.Settling.{Settles}
@@ -31,10 +35,15 @@ EndsAs settled.Memory t = ⊥
 abbrev pub TurnsEndSo : Type 0
 TurnsEndSo = (s t : Core) (r : Settled) → AtLeisure s → Settles s r t → Invariant t → AreIdle t → EndsAs r t
 
--- The lines are settled for the script's changes and the controller's clock; or, where an update waits for a key, but for the changes of pools and the last update.
+-- A printed list is settled for these changes and this clock; or, where an update waits for a key, but for the changes of pools and the last update.
+abbrev pub SettledFor : SetupView → List Change → Option ℕ → Option KeyView → List Line → Type 0
+SettledFor setup changes clock None lines = is_settled setup changes clock lines ≡ true
+SettledFor setup changes clock (Some key) lines = SettledWaiting setup changes clock lines key
+
+-- the lines of the state are, as the turns say that they end
 abbrev pub SettledAs : Config → Settled → Core → Type 0
-SettledAs k settled.Quiet t = is_settled (setup_of k) k.changes t.controller.clock (lines_of t) ≡ true
-SettledAs k (settled.Waiting key) t = SettledWaiting k t key
+SettledAs k settled.Quiet t = SettledFor (setup_of k) k.changes t.controller.clock None (lines_of t)
+SettledAs k (settled.Waiting key) t = SettledFor (setup_of k) k.changes t.controller.clock (Some key) (lines_of t)
 SettledAs k settled.Memory t = ⊥
 
 -- so the lines after such turns are settled as they say, by whatever events they were come to

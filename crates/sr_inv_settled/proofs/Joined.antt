@@ -14,7 +14,7 @@ use Rattle.sr_inv_settled.proofs.Placing.{all_placed}
 use Rattle.sr_inv_settled.proofs.Quieting.{none_quiet}
 use Rattle.sr_inv_settled.proofs.UsedJobs.{uses_keep, uses_open}
 use Rattle.sr_inv_settled.proofs.Waited.{waits_begun, waits_full, waits_open, waits_unplaced}
-use Rattle.sr_inv_settled.specs.Laws.{QuietIsSettled, SettledWaiting, WaitingIsSettled}
+use Rattle.sr_inv_settled.specs.Laws.{QuietIsSettled, SettledWaiting, WaitingIsSettled, WaitsFor}
 use Rattle.sr_inv_settled.specs.Quiet.{HasNothingToDo, IsQuiet}
 use Rattle.sr_inv_settled.specs.Told.{DownsKept, GivesKept}
 use Rattle.sr_inv_settled.specs.Used.{UsesAreTold}
@@ -57,12 +57,12 @@ quiet k s f r h =
 pub waiting : WaitingIsSettled
 waiting k s key f r h =
     let i = meets k s f r in
-    subst (λ c. SettledWaiting c s key) (same k s f r) (record {
+    subst (λ c. SettledWaiting (setup_of c) c.changes s.controller.clock (lines_of s) key) (same k s f r) (record {
       settled = idle_settled k s f r h.nothing;
-      waits = record {
+      waits = subst (λ ls. WaitsFor (setup_of s.config) ls key) (sym (reverse-reverse (printed s))) (record {
         begun = waits_begun s i key h;
         opened = waits_open s i key h;
         unplaced = waits_unplaced s i key h;
         full = waits_full s i key h;
-      };
+      });
     })

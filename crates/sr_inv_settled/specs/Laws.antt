@@ -1,6 +1,7 @@
 -- What is proved of the lines of a state in which nothing is left to do.
-use Rattle.std.specs.Prelude.{◌≡◌, true, false, []}
+use Rattle.std.specs.Prelude.{◌≡◌, ℕ, true, false, List, [], Option, reverse}
 use Rattle.sr_base.specs.Key.{KeyView}
+use Rattle.sr_base.specs.declared.change.Change.{Change}
 use Rattle.sr_inv_facts.specs.Fitted.{IsFitted}
 use Rattle.sr_inv_facts.specs.InCauses.{setup_of}
 use Rattle.sr_inv_final.specs.Reached.{IsReached}
@@ -8,8 +9,10 @@ use Rattle.sr_inv_settled.specs.Quiet.{IsQuiet, IsWaiting}
 use Rattle.sr_law.specs.Opening.{is_open}
 use Rattle.sr_law.specs.Rows.{is_group_full}
 use Rattle.sr_law.specs.Settled.{is_settled, is_settled_waiting, standing, update_settled}
+use Rattle.sr_law.specs.Setup.{SetupView}
+use Rattle.sr_law.specs.declared.line.Line.{Line}
 use Rattle.sr_machine.specs.Config.{Config}
-use Rattle.sr_machine.specs.Core.{Core, lines_of, printed}
+use Rattle.sr_machine.specs.Core.{Core, lines_of}
 
 -- Where nothing is left to do, the lines are settled for the script's changes and the clock.
 abbrev pub QuietIsSettled : Type 0
@@ -17,18 +20,21 @@ QuietIsSettled =
     (k : Config) (s : Core) → IsFitted k → IsReached k s → IsQuiet s
     → is_settled (setup_of k) k.changes s.controller.clock (lines_of s) ≡ true
 
--- By the lines the last update is under way, and the key for which it waits is open and has no place: no Placed line of it stands, and each row of its group has an entry.
-pub record WaitsFor (k : Config) (s : Core) (key : KeyView) : Type 0 where
-  pub begun : update_settled (setup_of k) (printed s) ≡ false
-  pub opened : is_open (printed s) key ≡ true
-  pub unplaced : standing key [] (printed s) ≡ []
-  pub full : is_group_full k.layout.shape (printed s) key ≡ true
+-- By these lines, of which the newest stands first, the last update is under way, and the key is open and has no place: no Placed line of it stands, and each row of its group
+-- has an entry.
+pub record WaitsFor (setup : SetupView) (lines : List Line) (key : KeyView) : Type 0 where
+  pub begun : update_settled setup lines ≡ false
+  pub opened : is_open lines key ≡ true
+  pub unplaced : standing key [] lines ≡ []
+  pub full : is_group_full setup.shape lines key ≡ true
 
--- Where an update waits for a key, the lines are settled but for what is said of changes of pools and of the last update; and they tell why it waits.
-pub record SettledWaiting (k : Config) (s : Core) (key : KeyView) : Type 0 where
-  pub settled : is_settled_waiting (setup_of k) k.changes s.controller.clock (lines_of s) ≡ true
-  pub waits : WaitsFor k s key
+-- Where an update waits for a key, a printed list is settled but for what is said of changes of pools and of the last update; and it tells why the update waits.
+pub record SettledWaiting (setup : SetupView) (changes : List Change) (clock : Option ℕ) (lines : List Line) (key : KeyView) : Type 0 where
+  pub settled : is_settled_waiting setup changes clock lines ≡ true
+  pub waits : WaitsFor setup (reverse lines) key
 
+-- the lines of such a state are
 abbrev pub WaitingIsSettled : Type 0
 WaitingIsSettled =
-    (k : Config) (s : Core) (key : KeyView) → IsFitted k → IsReached k s → IsWaiting s key → SettledWaiting k s key
+    (k : Config) (s : Core) (key : KeyView) → IsFitted k → IsReached k s → IsWaiting s key
+    → SettledWaiting (setup_of k) k.changes s.controller.clock (lines_of s) key
