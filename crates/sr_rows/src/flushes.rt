@@ -59,5 +59,9 @@ fn each_command_flushes(rt: HostRuntime) -> Result<(), Fail> {
         flushes_last(&rt, alloc, "audit|scene", FIRST.as_bytes(), 2)?,
         "audit"
     );
+    assert!(rt;
+        flushes_last(&rt, alloc, "replay|scene", &input, 7)?,
+        "replay"
+    );
     Ok(())
 }

@@ -21,6 +21,7 @@ audit|x|y
 audit|--|x
 replay
 replay|-x
+replay|scene|1
 make|1|0
 make|+1|5
 make|1|4194305

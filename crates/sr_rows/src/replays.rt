@@ -1,4 +1,5 @@
-//! Captures that are played by a script, step by step: over the narrow scene, and over the same with eight pipes and a change.
+//! Captures that are played by a script, in order (`replay`) and step by step (`steps`): over the narrow scene, and over the same with a
+//! change and with eight pipes.
 use crate::audit::{SCENE, is_lawful};
 use crate::bytes::capture;
 use crate::play::{READ_FAULT, Row, first_run, is_cut_short, row_of, told_over, told_with};
@@ -8,8 +9,31 @@ use std::alloc::{AllocError, Global};
 use std::test::Fail;
 use std::thread::Threads;
 
-// Words and captures, and then what is told. The ticks are those of a model of one connection over this scene, made for these rows.
-const ROWS: &str = "steps|scene|1
+// Words and captures, and then what is told. The ticks of `steps` are those of a model of one connection over this scene, made for these rows;
+// those of `replay` follow from the order: packets whole, and then a tick for the reservation, one for its grace, and one for the place.
+const ROWS: &str = "replay|scene
+raw syn data
+silkroad 1
+give 1 0 0 1
+packet 1 2 3 0 0/10.0.0.9:4000 open to 0 0 1
+packet 2 4 5 0 0/10.0.0.9:4000 data to 0 0 1
+reserve 6 0/10.0.0.9:4000 w1b0c0
+place 8 0/10.0.0.9:4000 w1b0c0
+exit 0
+==
+replay|scene
+raw 9=17 19=2
+silkroad 1
+skip 1 nottcp
+skip 2 notvip
+give 1 0 0 1
+exit 0
+==
+replay|scene
+header 0=213
+exit 3 silkroad: capture: magic
+==
+steps|scene|1
 raw syn data
 silkroad 1
 give 1 0 0 1
@@ -53,14 +77,26 @@ header 0=213
 exit 3 silkroad: capture: magic
 ";
 
-// What is printed of the first row.
-const FIRST_LOG: &str = "silkroad 1
+// What is printed of the first run in order, and by the picks of seed 1.
+const REPLAYED: &str = "silkroad 1
+give 1 0 0 1
+packet 1 2 3 0 0/10.0.0.9:4000 open to 0 0 1
+packet 2 4 5 0 0/10.0.0.9:4000 data to 0 0 1
+reserve 6 0/10.0.0.9:4000 w1b0c0
+place 8 0/10.0.0.9:4000 w1b0c0
+";
+
+const PICKED: &str = "silkroad 1
 give 1 0 0 1
 packet 1 2 3 0 0/10.0.0.9:4000 open to 0 0 1
 reserve 4 0/10.0.0.9:4000 w1b0c0
 place 7 0/10.0.0.9:4000 w1b0c0
 packet 2 6 9 0 0/10.0.0.9:4000 data to 0 0 1
 ";
+
+const REPLAY: &str = "replay|scene";
+
+const STEPS: &str = "steps|scene|1";
 
 // What is told of it without its last byte: the whole record before was played.
 const CUT_TOLD: &str = "silkroad 1
@@ -80,7 +116,17 @@ const CHANGE: &str = "[[change]]\nat_ms = 0\nvip = 0\npool = [1]\n";
 
 const WAITING: &[u8] = b"exit 7 silkroad: waiting for 0/10.0.0.12:4000\n";
 
-const SEEDS: &str = "steps|scene|1
+// Six openers and a data segment, and where its record has its fraction of a second.
+const SIX_AND_DATA: &str = "raw syn 15=10 15=11 15=12 15=13 15=14 data";
+
+const FRACTION: usize = 364;
+
+const LATE_CHANGE: &str = "[[change]]\nat_ms = 1\nvip = 0\npool = [1]\n";
+
+const LATE_WAITING: &[u8] = b"exit 7 silkroad: waiting for 0/10.0.0.13:4000\n";
+
+const RUNS: &str = "replay|scene
+steps|scene|1
 steps|scene|2
 steps|scene|3
 steps|scene|4
@@ -90,7 +136,7 @@ steps|scene|7
 steps|scene|8";
 
 // The words, over a capture in pieces.
-fn steps_row<'a>(words: &'a str, input: &'a [u8]) -> Row<'a> {
+fn play_row<'a>(words: &'a str, input: &'a [u8]) -> Row<'a> {
     Row {
         words,
         ..row_of(input, 7)
@@ -102,7 +148,7 @@ fn is_told<R: Threads + Sync>(rt: &R, alloc: Global, row: &str) -> Result<bool, 
     let (words, rest) = row.split_once('\n').unwrap_or((row, ""));
     let (segments, wanted) = rest.split_once('\n').unwrap_or((rest, ""));
     let input = capture(alloc, segments)?;
-    let told = told_with(rt, alloc, steps_row(words, &input), SCENE.as_bytes())?;
+    let told = told_with(rt, alloc, play_row(words, &input), SCENE.as_bytes())?;
     Ok(told.bytes() == wanted.as_bytes())
 }
 
@@ -123,56 +169,70 @@ fn captures(rt: HostRuntime) -> Result<(), Fail> {
 }
 
 // Whether the first record alone is played of a capture whose second is cut.
-fn tells_cut<R: Threads + Sync>(rt: &R, alloc: Global) -> Result<bool, AllocError> {
+fn tells_cut<R: Threads + Sync>(rt: &R, alloc: Global, words: &str) -> Result<bool, AllocError> {
     let input = first_run(alloc)?;
     let cut = &input[..input.len().saturating_sub(1)];
-    let told = told_with(rt, alloc, steps_row("steps|scene|1", cut), SCENE.as_bytes())?;
+    let told = told_with(rt, alloc, play_row(words, cut), SCENE.as_bytes())?;
     Ok(told.bytes() == CUT_TOLD.as_bytes())
 }
 
 // Whether a refused script is told, of a capture that is refused too.
-fn tells_script<R: Threads + Sync>(rt: &R, alloc: Global) -> Result<bool, AllocError> {
+fn tells_script<R: Threads + Sync>(rt: &R, alloc: Global, words: &str) -> Result<bool, AllocError> {
     let script = scene_with(alloc, "pool = [0]", "pool = [2]")?;
-    let told = told_with(rt, alloc, steps_row("steps|scene|1", &[]), &script)?;
+    let told = told_with(rt, alloc, play_row(words, &[]), &script)?;
     Ok(told.bytes() == NO_SERVER.as_bytes())
 }
 
 #[test]
 fn refusals(rt: HostRuntime) -> Result<(), Fail> {
-    assert!(rt; tells_cut(&rt, rt.alloc())?, "a record is cut");
-    assert!(rt; tells_script(&rt, rt.alloc())?, "a script is refused");
+    for words in [REPLAY, STEPS].iter() {
+        assert!(rt; tells_cut(&rt, rt.alloc(), words)?, "a record is cut");
+        assert!(rt;
+            tells_script(&rt, rt.alloc(), words)?,
+            "a script is refused"
+        );
+    }
     Ok(())
 }
 
 // Whether a shelf without the script is a read fault.
-fn lacks_script<R: Threads + Sync>(rt: &R, alloc: Global) -> Result<bool, AllocError> {
+fn lacks_script<R: Threads + Sync>(rt: &R, alloc: Global, words: &str) -> Result<bool, AllocError> {
     let mut none = MemShelf::new(Vec::new(alloc), Vec::new(alloc));
     let input = first_run(alloc)?;
-    let told = told_over(rt, alloc, steps_row("steps|scene|1", &input), &mut none)?;
+    let told = told_over(rt, alloc, play_row(words, &input), &mut none)?;
     Ok(told.bytes() == READ_FAULT.as_bytes())
 }
 
 // Whether the second read's fault is told.
-fn tells_read_fault<R: Threads + Sync>(rt: &R, alloc: Global) -> Result<bool, AllocError> {
+fn tells_read_fault<R: Threads + Sync>(
+    rt: &R,
+    alloc: Global,
+    words: &str,
+) -> Result<bool, AllocError> {
     let input = first_run(alloc)?;
     let row = Row {
         read_fails: 2,
-        ..steps_row("steps|scene|1", &input)
+        ..play_row(words, &input)
     };
     let told = told_with(rt, alloc, row, SCENE.as_bytes())?;
     Ok(told.bytes() == READ_FAULT.as_bytes())
 }
 
 // The sink takes the head and five lines, and is flushed. The first call whose fault isn't told.
-fn passed_over_write<R: Threads + Sync>(rt: &R, alloc: Global) -> Result<Option<u64>, AllocError> {
+fn passed_over_write<R: Threads + Sync>(
+    rt: &R,
+    alloc: Global,
+    words: &str,
+    log: &str,
+) -> Result<Option<u64>, AllocError> {
     let input = first_run(alloc)?;
     for k in 1..=7 {
         let row = Row {
             write_fails: k,
-            ..steps_row("steps|scene|1", &input)
+            ..play_row(words, &input)
         };
         let told = told_with(rt, alloc, row, SCENE.as_bytes())?;
-        if !is_cut_short(told.bytes(), FIRST_LOG) {
+        if !is_cut_short(told.bytes(), log) {
             return Ok(Some(k));
         }
     }
@@ -181,9 +241,20 @@ fn passed_over_write<R: Threads + Sync>(rt: &R, alloc: Global) -> Result<Option<
 
 #[test]
 fn devices(rt: HostRuntime) -> Result<(), Fail> {
-    assert!(rt; lacks_script(&rt, rt.alloc())?, "no script");
-    assert!(rt; tells_read_fault(&rt, rt.alloc())?, "a read fails");
-    assert_eq!(rt; passed_over_write(&rt, rt.alloc())?, None, "a write fails");
+    for words in [REPLAY, STEPS].iter() {
+        assert!(rt; lacks_script(&rt, rt.alloc(), words)?, "no script");
+        assert!(rt; tells_read_fault(&rt, rt.alloc(), words)?, "a read fails");
+    }
+    assert_eq!(rt;
+        passed_over_write(&rt, rt.alloc(), REPLAY, REPLAYED)?,
+        None,
+        "a write fails"
+    );
+    assert_eq!(rt;
+        passed_over_write(&rt, rt.alloc(), STEPS, PICKED)?,
+        None,
+        "a write fails"
+    );
     Ok(())
 }
 
@@ -202,14 +273,35 @@ fn told_of_six<R: Threads + Sync>(
     script: &[u8],
 ) -> Result<MemSink, AllocError> {
     let input = capture(alloc, SIX)?;
-    told_with(rt, alloc, steps_row(words, &input), script)
+    told_with(rt, alloc, play_row(words, &input), script)
 }
 
 // Whether the opener of a key without a place is waited for.
-fn waits<R: Threads + Sync>(rt: &R, alloc: Global) -> Result<bool, AllocError> {
+fn waits<R: Threads + Sync>(rt: &R, alloc: Global, words: &str) -> Result<bool, AllocError> {
     let script = wide_scene(alloc)?;
-    let told = told_of_six(rt, alloc, "steps|scene|2", &script)?;
+    let told = told_of_six(rt, alloc, words, &script)?;
     Ok(told.bytes().ends_with(WAITING))
+}
+
+// Six openers, and a data segment a millisecond later.
+fn six_and_data(alloc: Global) -> Result<Vec<u8>, AllocError> {
+    let mut input = capture(alloc, SIX_AND_DATA)?;
+    for (at, byte) in [(FRACTION, 0xe8), (FRACTION + 1, 0x03)].iter() {
+        if *at < input.len() {
+            input[*at] = *byte;
+        }
+    }
+    Ok(input)
+}
+
+// Whether a replay over one pipe, with a change that comes due at the data segment, waits for the fifth key, and its log is lawful.
+fn replays_change<R: Threads + Sync>(rt: &R, alloc: Global) -> Result<bool, AllocError> {
+    let mut script = Vec::from_slice(alloc, SCENE.as_bytes())?;
+    script.extend_from_slice(LATE_CHANGE.as_bytes())?;
+    let input = six_and_data(alloc)?;
+    let told = told_with(rt, alloc, play_row(REPLAY, &input), &script)?;
+    let lawful = is_lawful(rt, alloc, &script, log_of(told.bytes()))?;
+    Ok(lawful && told.bytes().ends_with(LATE_WAITING))
 }
 
 // What was printed, of what is told.
@@ -223,7 +315,7 @@ fn log_of(told: &[u8]) -> &[u8] {
 // The words of the first run whose log isn't lawful. Empty where there is none.
 fn unlawful<R: Threads + Sync>(rt: &R, alloc: Global) -> Result<&'static str, AllocError> {
     let script = wide_scene(alloc)?;
-    for words in SEEDS.split('\n') {
+    for words in RUNS.split('\n') {
         let told = told_of_six(rt, alloc, words, &script)?;
         if !is_lawful(rt, alloc, &script, log_of(told.bytes()))? {
             return Ok(words);
@@ -234,7 +326,12 @@ fn unlawful<R: Threads + Sync>(rt: &R, alloc: Global) -> Result<&'static str, Al
 
 #[test]
 fn six_openers(rt: HostRuntime) -> Result<(), Fail> {
-    assert!(rt; waits(&rt, rt.alloc())?, "a key is waited for");
+    assert!(rt;
+        waits(&rt, rt.alloc(), "steps|scene|2")?,
+        "a key is waited for"
+    );
+    assert!(rt; waits(&rt, rt.alloc(), REPLAY)?, "a key is waited for");
+    assert!(rt; replays_change(&rt, rt.alloc())?, "a change comes due late");
     assert_eq!(rt; unlawful(&rt, rt.alloc())?, "");
     Ok(())
 }
