@@ -27,6 +27,8 @@ use Rattle.sr_run.specs.Capture.{header_refusal, status_without}
 use Rattle.sr_run.proofs.Taking.{takable}
 use Rattle.sr_run.specs.LawfulLog.{IsLawfulLog}
 use Rattle.sr_run.specs.Outside.{Outside, WritesNothing}
+use Rattle.sr_run.specs.SettledLog.{IsSettledLog}
+use Rattle.sr_scripted.specs.Played.{AreSettled}
 use Rattle.sr_run.specs.ScriptText.{IsScript, Fetches, IsReady}
 use Rattle.sr_run.specs.Played.{EndsCapture, EndsPlay, IsLogOf, IsRunOf, MadeBy, PlaysCapture, PlaysCaptured, PlaySays, status_after, played_packets, played_setup, played_skips, timed}
 use Rattle.sr_run.specs.declared.status.Status.{Status}
@@ -66,6 +68,12 @@ made_lawful : (way : Way) (s : Spelled) (records : Records) (lines : List Line) 
 made_lawful (ways.Picked seed) s records lines awaited h = h.lawful
 made_lawful ways.InOrder s records lines awaited h = h.lawful
 
+-- and settled
+made_settled : (way : Way) (s : Spelled) (packets : List Timed) (lines : List Line) (awaited : Option KeyView) → MadeBy way s packets lines awaited
+    → AreSettled s packets lines awaited
+made_settled (ways.Picked seed) s packets lines awaited h = h.settled
+made_settled ways.InOrder s packets lines awaited h = h.settled
+
 module _ (s : Spelled) (way : Way) (xs : List ℕ) (captured : Captured Timed) (records : Records) (taken : capture_of xs ≡ Ok records)
     (source : SourceKnown) (keeps : Keeps timed s.vips records source.left captured) (fits : IsFitting s) where
   -- a log of the run has lawful lines
@@ -75,13 +83,19 @@ module _ (s : Spelled) (way : Way) (xs : List ℕ) (captured : Captured Timed) (
       let h = made_lawful way s records is.lines awaited is.plays (takable s xs records fits taken) in
       record { lines = is.lines; printed = is.printed; lawful = h; kept = kept _ _ is.lines h.0; newer = newer _ _ is.lines h.0 }
 
+  -- and settled ones
+  settled_log : (awaited : Option KeyView) (log : List ℕ) → IsLogOf s way (played_skips s records) (played_packets s records) awaited log
+      → IsSettledLog s (played_skips s records) (played_packets s records) awaited log
+  settled_log awaited log is =
+      record { lines = is.lines; printed = is.printed; settled = made_settled way s (played_packets s records) is.lines awaited is.plays }
+
   -- the log of what was kept is that of the run
   run_of : (awaited : Option KeyView) (log : List ℕ) → IsLogOf s way captured.skips.items captured.packets.items awaited log
       → IsRunOf s way xs captured.ending awaited log
   run_of awaited log is =
       let whole = subst (λ k. IsLogOf s way k (played_packets s records) awaited log) keeps.skips
       (subst (λ k. IsLogOf s way captured.skips.items k awaited log) keeps.packets is) in
-      record { records = records; taken = taken; ended = sym keeps.ending; is_log = whole; lawful = lawful_log awaited log whole }
+      record { records = records; taken = taken; ended = sym keeps.ending; is_log = whole; lawful = lawful_log awaited log whole; settled = settled_log awaited log whole }
 
   run_with : (ending : Option CaptureRefusal) (awaited : Option KeyView) (log : List ℕ) → captured.ending ≡ ending
       → IsLogOf s way captured.skips.items captured.packets.items awaited log → IsRunOf s way xs ending awaited log

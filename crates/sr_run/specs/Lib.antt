@@ -12,4 +12,5 @@ pub mod Played
 pub mod Printing
 pub mod ScriptText
 pub mod Servers
+pub mod SettledLog
 pub mod Status

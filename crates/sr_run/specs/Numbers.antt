@@ -1,6 +1,7 @@
 -- Numbers on the command line: 1 to 20 decimal digits, below 2^64. Leading zeros are digits.
 use Rattle.std.specs.Prelude.{ℕ, ◌^◌, ◌&&◌, nat_le, nat_lt, if◌then◌else◌, List, length, Option, Some, None, option_and_then}
 use Rattle.std.specs.List.{list_all}
+use Rattle.sr_gen.specs.Capture.{most_packets}
 use Rattle.sr_decimal.specs.Front.{is_digit, value_from}
 
 -- the number, if it is below 2^64
@@ -14,7 +15,7 @@ number_of word =
 
 -- a number of packets: 1 to 4,194,304
 abbrev pub packets_in : ℕ → Option ℕ
-packets_in n = if nat_le 1 n && nat_le n 4194304 then Some n else None
+packets_in n = if nat_le 1 n && nat_le n most_packets then Some n else None
 
 unfoldable pub count_of_packets : List ℕ → Option ℕ
 count_of_packets word = option_and_then packets_in (number_of word)

@@ -26,6 +26,7 @@ use Rattle.sr_text.specs.LineText.{log_text}
 use Rattle.sr_run.specs.Capture.{header_refusal}
 use Rattle.sr_run.specs.LawfulLog.{IsLawfulLog}
 use Rattle.sr_run.specs.Outside.{Outside}
+use Rattle.sr_run.specs.SettledLog.{IsSettledLog}
 use Rattle.sr_run.specs.ScriptText.{IsScript, IsNoScript}
 use Rattle.sr_run.specs.declared.status.Status.{Status}
 use Rattle.sr_run.specs.declared.way.Way.{Way}
@@ -95,13 +96,15 @@ played_setup s records = record {
 
 -- The bytes are a capture with whole records that ended so, and this is the log of their run, with this key waited for in the end. Whatever
 -- the order, the lines are lawful: so the packets of an open connection go to the server of its opening, a connection that is opened after a switch uses that
--- pool or a later one, and each packet has its one final line.
+-- pool or a later one, and each packet has its one final line. And they are settled: what was due by the end of the run was done, but for what waits for a
+-- key without a place.
 pub record IsRunOf (s : Spelled) (way : Way) (bytes : List ℕ) (ending : Option CaptureRefusal) (awaited : Option KeyView) (log : List ℕ) : Type 0 where
   pub records : Records
   pub taken : capture_of bytes ≡ Ok records
   pub ended : records.ending ≡ ending
   pub is_log : IsLogOf s way (played_skips s records) (played_packets s records) awaited log
   pub lawful : IsLawfulLog (played_setup s records) (played_skips s records) log
+  pub settled : IsSettledLog s (played_skips s records) (played_packets s records) awaited log
 
 -- the whole capture was read, and the log of its run was printed
 abbrev pub PlaysAll : Option KeyView → Spelled → Way → List ℕ → SourceKnown → SinkKnown → SinkKnown → Type 0

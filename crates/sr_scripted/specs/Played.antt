@@ -1,6 +1,8 @@
 -- What is left of a script's run: by the picks of a seed, or in whatever order.
 use Rattle.std.specs.Prelude.{◌≡◌, ℕ, List, Option, None, Some}
 use Rattle.sr_base.specs.Key.{KeyView}
+use Rattle.sr_inv_ends.specs.Laws.{SettledFor, last_clock}
+use Rattle.sr_inv_facts.specs.InCauses.{setup_of}
 use Rattle.sr_inv_entered.specs.Entered.{AreTakable, given}
 use Rattle.sr_inv_final.specs.Rest.{AreIdle, setup_with}
 use Rattle.sr_law.specs.Lawful.{IsLawful}
@@ -26,10 +28,16 @@ pub record LeadsTo (s : Spelled) (seed : ℕ) (packets : List Timed) (lines : Li
   pub runs : RunsByPicks (config_of s) seed packets (settled_for awaited) state
   pub all : lines ≡ lines_of state
 
--- The run leads to these lines. They are lawful for the script's shape, servers and pools and the packets, where each packet is to a virtual address of
+-- the lines are settled for the script's changes and the clock of the last round, or, where an update waits for this key, but for the changes of pools
+-- and the last update, and tell why it waits
+abbrev pub AreSettled : Spelled → List Timed → List Line → Option KeyView → Type 0
+AreSettled s packets lines awaited = SettledFor (setup_of (config_of s)) s.changes (last_clock (config_of s) packets) awaited lines
+
+-- The run leads to these lines. They are settled; and they are lawful for the script's shape, servers and pools and the packets, where each packet is to a virtual address of
 -- the script, and there are fewer than 2^32.
 pub record Plays (s : Spelled) (seed : ℕ) (packets : List Timed) (lines : List Line) (awaited : Option KeyView) : Type 0 where
   pub leads : LeadsTo s seed packets lines awaited
+  pub settled : AreSettled s packets lines awaited
   pub lawful : AreTakable (config_of s) packets → IsLawful (setup_with (config_of s) (given packets)) lines
 
 -- ---- in whatever order
@@ -58,4 +66,5 @@ pub record Ends (s : Spelled) (lines : List Line) (awaited : Option KeyView) : T
 -- address of the script, and there are fewer than 2^32: so each packet has entered once and has its final line.
 pub record Replays (s : Spelled) (packets : List Timed) (lines : List Line) (awaited : Option KeyView) : Type 0 where
   pub ends : Ends s lines awaited
+  pub settled : AreSettled s packets lines awaited
   pub lawful : AreTakable (config_of s) packets → IsLawful (setup_with (config_of s) (given packets)) lines
