@@ -7,6 +7,7 @@ mod FrameVips
 mod LawfulLines
 mod Parts
 mod PrintedLines
+mod Rarely
 mod Running
 mod Sorting
 mod Stepping

@@ -1,5 +1,5 @@
 -- What each status of a command that plays a capture says, put together from its parts.
-use Rattle.std.proofs.Common.{◌≡◌, ℕ, List, [], Option, Some, None, Result, Ok, Err, refl, sym, ap, subst, inl, inr}
+use Rattle.std.proofs.Common.{◌≡◌, ℕ, List, [], map, Option, Some, None, Result, Ok, Err, refl, sym, ap, subst, inl, inr}
 use Rattle.sr_base.specs.Key.{KeyView}
 use Rattle.sr_capture.specs.Capture.{Keeps, Reads, capture_of}
 use Rattle.sr_capture.specs.Records.{Records}
@@ -27,6 +27,8 @@ use Rattle.sr_run.specs.Capture.{header_refusal, status_without}
 use Rattle.sr_run.proofs.Taking.{takable}
 use Rattle.sr_run.specs.LawfulLog.{IsLawfulLog}
 use Rattle.sr_run.specs.Outside.{Outside, WritesNothing}
+use Rattle.sr_run.proofs.Rarely.{rarely}
+use Rattle.sr_run.specs.RareLog.{IsRareLog}
 use Rattle.sr_run.specs.SettledLog.{IsSettledLog}
 use Rattle.sr_scripted.specs.Played.{AreSettled}
 use Rattle.sr_run.specs.ScriptText.{IsScript, Fetches, IsReady}
@@ -89,13 +91,20 @@ module _ (s : Spelled) (way : Way) (xs : List ℕ) (captured : Captured Timed) (
   settled_log awaited log is =
       record { lines = is.lines; printed = is.printed; settled = made_settled way s (played_packets s records) is.lines awaited is.plays }
 
+  -- and no rare verdict without its reason
+  rare_log : (awaited : Option KeyView) (log : List ℕ) → IsLogOf s way (played_skips s records) (played_packets s records) awaited log
+      → IsRareLog s (played_skips s records) (played_packets s records) awaited log
+  rare_log awaited log is =
+      rarely s (played_packets s records) (map (λ t. t.packet) (played_packets s records)) is.lines (made_lawful way s records is.lines awaited is.plays (takable s xs records fits taken))
+      (played_skips s records) awaited log is.printed (made_settled way s (played_packets s records) is.lines awaited is.plays)
+
   -- the log of what was kept is that of the run
   run_of : (awaited : Option KeyView) (log : List ℕ) → IsLogOf s way captured.skips.items captured.packets.items awaited log
       → IsRunOf s way xs captured.ending awaited log
   run_of awaited log is =
       let whole = subst (λ k. IsLogOf s way k (played_packets s records) awaited log) keeps.skips
       (subst (λ k. IsLogOf s way captured.skips.items k awaited log) keeps.packets is) in
-      record { records = records; taken = taken; ended = sym keeps.ending; is_log = whole; lawful = lawful_log awaited log whole; settled = settled_log awaited log whole }
+      record { records = records; taken = taken; ended = sym keeps.ending; is_log = whole; lawful = lawful_log awaited log whole; settled = settled_log awaited log whole; rare = rare_log awaited log whole }
 
   run_with : (ending : Option CaptureRefusal) (awaited : Option KeyView) (log : List ℕ) → captured.ending ≡ ending
       → IsLogOf s way captured.skips.items captured.packets.items awaited log → IsRunOf s way xs ending awaited log

@@ -10,6 +10,7 @@ pub mod Outside
 pub mod Parting
 pub mod Played
 pub mod Printing
+pub mod RareLog
 pub mod ScriptText
 pub mod Servers
 pub mod SettledLog

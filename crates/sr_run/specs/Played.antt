@@ -26,6 +26,7 @@ use Rattle.sr_text.specs.LineText.{log_text}
 use Rattle.sr_run.specs.Capture.{header_refusal}
 use Rattle.sr_run.specs.LawfulLog.{IsLawfulLog}
 use Rattle.sr_run.specs.Outside.{Outside}
+use Rattle.sr_run.specs.RareLog.{IsRareLog}
 use Rattle.sr_run.specs.SettledLog.{IsSettledLog}
 use Rattle.sr_run.specs.ScriptText.{IsScript, IsNoScript}
 use Rattle.sr_run.specs.declared.status.Status.{Status}
@@ -105,6 +106,7 @@ pub record IsRunOf (s : Spelled) (way : Way) (bytes : List ℕ) (ending : Option
   pub is_log : IsLogOf s way (played_skips s records) (played_packets s records) awaited log
   pub lawful : IsLawfulLog (played_setup s records) (played_skips s records) log
   pub settled : IsSettledLog s (played_skips s records) (played_packets s records) awaited log
+  pub rare : IsRareLog s (played_skips s records) (played_packets s records) awaited log
 
 -- the whole capture was read, and the log of its run was printed
 abbrev pub PlaysAll : Option KeyView → Spelled → Way → List ℕ → SourceKnown → SinkKnown → SinkKnown → Type 0
