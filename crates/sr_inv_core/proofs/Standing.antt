@@ -1,6 +1,6 @@
 -- A machine that makes an event of the definitions goes on in a state that meets the invariant.
 use Rattle.std.proofs.Common.{◌≡◌, ℕ, Option, Some, None, refl, sym, subst}
-use Rattle.sr_core.specs.HeldCore.{HeldCore, Shows, StepsTo, state_of}
+use Rattle.sr_core.specs.HeldCore.{HeldCore, StepsTo, state_of}
 use Rattle.sr_core.specs.PlainWords.{ShowsWords}
 use Rattle.sr_inv.proofs.Joined.{event_meets}
 use Rattle.sr_inv_core.specs.Keeps.{Stands, StandsOn}

@@ -43,7 +43,7 @@ pub fn keeps_phases(core: &mut Core, event: Event) -> Stepped
 }
 
 // Makes any event.
-fn keeps(core: &mut Core, event: Event) -> Stepped
+pub(crate) fn keeps(core: &mut Core, event: Event) -> Stepped
     ensures step { (words : AName → ℕ) → ShowsWords core.old.config.layout core.old.words words
         → StepsTo result (step_event event (state_of core.old words)) core.old core.new }
     ensures kept { StandsOn core.old core.new }
