@@ -22,8 +22,8 @@ const BIG: [u8; 104] = [
     0, 0, 0, 0, 0, 1, 0, 0, 0, 0, 0, 0, 0, 2, 0, 0, 0, 2, 7, 8, 0, 0, 0, 0, 0, 36,
 ];
 
-// So many bytes are read at once at most.
-const ROOM: usize = 64;
+// A window has room for a packet's captured bytes.
+const ROOM: usize = 262_144;
 
 // Bytes that come in pieces of at most so many, the second part after the first. One of the calls may fail.
 #[derive(Debug, Drop)]
