@@ -73,6 +73,30 @@ def log_of(program, capture, path, last=b""):
         return sum(1 for _ in log)
 
 
+def plain(folder, path, packets):
+    """The row of `one` as a plain Rust program without proofs, where there is a compiler for it."""
+    if not shutil.which("rustc"):
+        return
+    built = os.path.join(folder, "plain_one")
+    here = os.path.dirname(os.path.abspath(__file__))
+    subprocess.run(["rustc", "-O", "-o", built, os.path.join(here, "plain_one.rs")], check=True)
+    seconds, peak = best([built, *ONE[1:]], path)
+    yield row("`one` as a plain Rust program (`plain_one.rs`)", packets, seconds, peak)
+
+
+def replays(program, folder):
+    """Rows of `replay`: one pool changes after a second of the capture."""
+    script = os.path.join(folder, "change.toml")
+    with open(script, "w") as out:
+        out.write(POOL.replace("[0, 1]", "[0]") + "[[change]]\nat_ms = 1000\nvip = 0\npool = [1]\n")
+    for packets in (20_000, SIZES[0]):
+        capture = os.path.join(folder, "replayed.pcap")
+        with open(capture, "wb") as out:
+            subprocess.run([program, "make", "1", str(packets)], stdout=out, check=True)
+        seconds, peak = best([program, "replay", script], capture, runs=1)
+        yield row("`silkroad replay`, one in four packets", packets, seconds, peak)
+
+
 def audits(program, folder):
     """Rows of `audit`: of a long log with a bad last line, which is read and not judged, and of a short lawful one."""
     script = os.path.join(folder, "pool.toml")
@@ -137,6 +161,7 @@ def main():
             seconds, peak = best([program, *ONE], blocks)
             rows.append(row("`silkroad one`, pcapng", packets, seconds, peak))
             os.remove(blocks)
+            rows.extend(plain(folder, path, packets))
             if packets != SIZES[0]:
                 continue
             if shutil.which("tcpdump"):
@@ -145,6 +170,7 @@ def main():
             else:
                 rows.append(f"| `tcpdump -nr` | {packets:,} | not installed | | | |")
         rows.extend(audits(program, folder))
+        rows.extend(replays(program, folder))
         if len(sys.argv) > 2:
             rows.extend(books(os.path.abspath(sys.argv[2])))
         if len(sys.argv) > 3:
