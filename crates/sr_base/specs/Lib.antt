@@ -5,6 +5,7 @@ pub mod Key
 pub mod Layout
 pub mod Limit
 pub mod Place
+pub mod Ranges
 pub mod RingWord
 pub mod RowHead
 pub mod SlotWord

@@ -1,6 +1,7 @@
 -- The ranges of a layout's numbers.
 use Rattle.std.specs.Prelude.{ℕ, Bool, ◌&&◌, ◌==◌, ◌%◌, nat_le, if◌then◌else◌, Option, Some, None}
 use Rattle.std.specs.Int.{is_power_of_two}
+use Rattle.sr_base.specs.Ranges.{most_pipes, most_buckets, most_digest_bits, most_versions, most_in_pool, most_full_rows, most_filter_bits, most_ring_cells, most_window_ms, most_idle_ms, most_lives, most_vips, most_servers}
 use Rattle.sr_base.specs.declared.shape.Shape.{Shape}
 use Rattle.sr_base.specs.declared.layout.ShapeLimit.{ShapeLimit}
 use Rattle.sr_base.specs.declared.layout.ShapeLimit.TheVariants.{Pipes, Buckets, DigestBits, Versions, PoolMax, FullRows, FilterBits, Ring, Window, Idle, Lives, Vips, Servers}
@@ -20,23 +21,23 @@ where_in_range test limit next = if test then next else Some limit
 -- the first number outside its range, of the sizes of tables and pools
 abbrev pub table_limit_of : Shape → Option ShapeLimit
 table_limit_of s =
-    where_in_range (between 1 16 s.pipes) Pipes
-    (where_in_range (power_up_to 65536 s.buckets) Buckets
-    (where_in_range (between 0 16 s.digest_bits) DigestBits
-    (where_in_range (between 2 64 s.versions) Versions
-    (where_in_range (between 1 255 s.pool_max) PoolMax None))))
+    where_in_range (between 1 most_pipes s.pipes) Pipes
+    (where_in_range (power_up_to most_buckets s.buckets) Buckets
+    (where_in_range (between 0 most_digest_bits s.digest_bits) DigestBits
+    (where_in_range (between 2 most_versions s.versions) Versions
+    (where_in_range (between 1 most_in_pool s.pool_max) PoolMax None))))
 
 -- the first number outside its range, of the others
 abbrev pub other_limit_of : Shape → ℕ → ℕ → Option ShapeLimit
 other_limit_of s vips servers =
-    where_in_range (between 4 65536 s.full_rows && (s.full_rows % 4 == 0)) FullRows
-    (where_in_range (power_up_to 1048576 s.filter_bits) FilterBits
-    (where_in_range (between 1 65536 s.ring) Ring
-    (where_in_range (between 1 60000 s.window_ms) Window
-    (where_in_range (between 1 86400000 s.idle_ms) Idle
-    (where_in_range (between 1 255 s.lives) Lives
-    (where_in_range (between 1 16 vips) Vips
-    (where_in_range (between 1 65536 servers) Servers None)))))))
+    where_in_range (between 4 most_full_rows s.full_rows && (s.full_rows % 4 == 0)) FullRows
+    (where_in_range (power_up_to most_filter_bits s.filter_bits) FilterBits
+    (where_in_range (between 1 most_ring_cells s.ring) Ring
+    (where_in_range (between 1 most_window_ms s.window_ms) Window
+    (where_in_range (between 1 most_idle_ms s.idle_ms) Idle
+    (where_in_range (between 1 most_lives s.lives) Lives
+    (where_in_range (between 1 most_vips vips) Vips
+    (where_in_range (between 1 most_servers servers) Servers None)))))))
 
 -- the first limit of these, or else the second
 abbrev pub or_limit : Option ShapeLimit → Option ShapeLimit → Option ShapeLimit

@@ -3,6 +3,11 @@ ghost use Rattle.sr_base.specs.Limit.{between, power_up_to, table_limit_of, othe
 ghost use Rattle.sr_base.specs.Layout.{IsLayout};
 ghost use Rattle.sr_base.specs.WordName.{filter_words, HasPlace, HasVersion, HasWord, entries_of, filter_start, pipes_start, vips_start, pools_start, down_start, words_of, entry_number, pipe_start, pool_start, place_of, NamesApart, PlacesBelow, EachPlaceNamed, StoresStand, StoresApart, FilterBitsHaveWords};
 
+use crate::greatest::{
+    MOST_BUCKETS, MOST_DIGEST_BITS, MOST_FILTER_BITS, MOST_FULL_ROWS, MOST_IDLE_MS, MOST_IN_POOL,
+    MOST_LIVES, MOST_PIPES, MOST_RING_CELLS, MOST_SERVERS, MOST_VERSIONS, MOST_VIPS,
+    MOST_WINDOW_MS,
+};
 use crate::{Place, Shape, WordName};
 use std::marker::Model;
 use thiserror::Error;
@@ -312,19 +317,19 @@ fn first_limit(shape: &Shape, vips: u8, servers: u32) -> Option<ShapeLimit>
 fn first_table_limit(shape: &Shape) -> Option<ShapeLimit>
     ensures { result ≡ table_limit_of shape.now }
 {
-    if !is_between(1, 16, shape.pipes as u64) {
+    if !is_between(1, MOST_PIPES, shape.pipes as u64) {
         return Some(ShapeLimit::Pipes);
     }
-    if !is_power_up_to(65_536, shape.buckets) {
+    if !is_power_up_to(MOST_BUCKETS, shape.buckets) {
         return Some(ShapeLimit::Buckets);
     }
-    if !is_between(0, 16, shape.digest_bits as u64) {
+    if !is_between(0, MOST_DIGEST_BITS, shape.digest_bits as u64) {
         return Some(ShapeLimit::DigestBits);
     }
-    if !is_between(2, 64, shape.versions as u64) {
+    if !is_between(2, MOST_VERSIONS, shape.versions as u64) {
         return Some(ShapeLimit::Versions);
     }
-    if !is_between(1, 255, shape.pool_max as u64) {
+    if !is_between(1, MOST_IN_POOL, shape.pool_max as u64) {
         return Some(ShapeLimit::PoolMax);
     }
     None
@@ -335,28 +340,28 @@ fn first_other_limit(shape: &Shape, vips: u8, servers: u32) -> Option<ShapeLimit
     ensures { result ≡ other_limit_of shape.now vips servers }
 {
     let rows = shape.full_rows;
-    if !(is_between(4, 65_536, rows as u64) && rows % 4 == 0) {
+    if !(is_between(4, MOST_FULL_ROWS, rows as u64) && rows % 4 == 0) {
         return Some(ShapeLimit::FullRows);
     }
-    if !is_power_up_to(1_048_576, shape.filter_bits) {
+    if !is_power_up_to(MOST_FILTER_BITS, shape.filter_bits) {
         return Some(ShapeLimit::FilterBits);
     }
-    if !is_between(1, 65_536, shape.ring as u64) {
+    if !is_between(1, MOST_RING_CELLS, shape.ring as u64) {
         return Some(ShapeLimit::Ring);
     }
-    if !is_between(1, 60_000, shape.window_ms) {
+    if !is_between(1, MOST_WINDOW_MS, shape.window_ms) {
         return Some(ShapeLimit::Window);
     }
-    if !is_between(1, 86_400_000, shape.idle_ms) {
+    if !is_between(1, MOST_IDLE_MS, shape.idle_ms) {
         return Some(ShapeLimit::Idle);
     }
-    if !is_between(1, 255, shape.lives as u64) {
+    if !is_between(1, MOST_LIVES, shape.lives as u64) {
         return Some(ShapeLimit::Lives);
     }
-    if !is_between(1, 16, vips as u64) {
+    if !is_between(1, MOST_VIPS, vips as u64) {
         return Some(ShapeLimit::Vips);
     }
-    if !is_between(1, 65_536, servers as u64) {
+    if !is_between(1, MOST_SERVERS, servers as u64) {
         return Some(ShapeLimit::Servers);
     }
     None

@@ -5,6 +5,7 @@
 
 mod change;
 mod full_word;
+mod greatest;
 mod key;
 mod kind;
 mod layout;
@@ -21,6 +22,11 @@ mod word_name;
 
 pub use change::{Change, What};
 pub use full_word::{FullWord, full_unpacks};
+pub use greatest::{
+    MOST_BUCKETS, MOST_DIGEST_BITS, MOST_FILTER_BITS, MOST_FULL_ROWS, MOST_IDLE_MS, MOST_IN_POOL,
+    MOST_LIVES, MOST_PIPES, MOST_RING_CELLS, MOST_SERVERS, MOST_VERSIONS, MOST_VIPS,
+    MOST_WINDOW_MS,
+};
 pub use key::{Key, key_ranges, key_unpacks};
 pub use kind::Kind;
 pub use layout::{Layout, ShapeLimit, filter_bits_have_words, layout_ranges, words_stand_apart};
