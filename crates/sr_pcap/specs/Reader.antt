@@ -1,5 +1,5 @@
 -- What a reader knows, and what its calls do.
-use Rattle.std.specs.Prelude.{◌≡◌, ℕ, ◌+◌, ◌-◌, ◌^◌, ◌<◌, ◌≤◌, min, List, [], length, drop, Option, Some, None, Result, Ok, Err}
+use Rattle.std.specs.Prelude.{◌≡◌, ℕ, ◌+◌, ◌-◌, ◌*◌, ◌^◌, ◌<◌, ◌≤◌, min, List, [], length, drop, Option, Some, None, Result, Ok, Err}
 use Rattle.sr_io.specs.Window.{WindowView, Pending}
 use Rattle.sr_pcap.specs.declared.begin_refusal.BeginRefusal.{BeginRefusal}
 use Rattle.sr_pcap.specs.declared.begin_refusal.BeginRefusal.TheVariants as begin
@@ -9,6 +9,14 @@ use Rattle.sr_pcap.specs.declared.next.Next.TheVariants.{Whole, End, Truncated, 
 use Rattle.sr_pcap.specs.declared.record_header.RecordHeader.{RecordHeader}
 use Rattle.sr_pcap.specs.Format.{header_of, most_captured}
 use Rattle.sr_pcap.specs.Next.{next_at, size_at, frame_at, rest_at}
+
+-- the bytes of the longest record: its header and the most captured bytes
+abbrev pub longest_record : ℕ
+longest_record = 16 + most_captured
+
+-- the room of a reader: two of the longest records, since the last one stays while the next is read
+abbrev pub reader_room : ℕ
+reader_room = 2 * longest_record
 
 -- a reader as the format of its capture, where the next record begins, the captured bytes of the last whole one, the window with the bytes
 -- that aren't used yet, and the answer that it gives from now on, if there is one

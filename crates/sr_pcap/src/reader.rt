@@ -2,19 +2,20 @@ ghost use Rattle.std.specs.Prelude.{◌≡◌, ◌≢◌, ◌⊎◌, ℕ, ◌+�
 ghost use Rattle.std.specs.Option.{ForSome};
 ghost use Rattle.sr_io.specs.Faults.{Counts};
 ghost use Rattle.sr_io.specs.Window.{Pending, new_window, passed};
-ghost use Rattle.sr_pcap.specs.Reader.{Steps, Answers, Begins, Looks, Found, ended_by, with_record, with_window};
+ghost use Rattle.sr_pcap.specs.Format.{most_captured};
+ghost use Rattle.sr_pcap.specs.Reader.{Steps, Answers, Begins, Looks, Found, ended_by, reader_room, with_record, with_window};
 ghost use Rattle.sr_pcap.specs.declared.begin_refusal.BeginRefusal.TheVariants as begin;
 ghost use Rattle.sr_pcap.specs.declared.next.Next.TheVariants.{Whole, ReadFault};
 
 use crate::format::{CAPTURE_HEADER, Format};
-use crate::record_header::{RECORD_HEADER, RecordHeader};
+use crate::record_header::{MOST_CAPTURED, RECORD_HEADER, RecordHeader};
 use crate::{BeginRefusal, Next};
 use sr_io::{Source, Window};
 use std::alloc::{AllocError, Global};
 use std::marker::Model;
 
 // How many bytes a reader has room for: two of the longest records, since the last one stays while the next is read.
-const ROOM: usize = 524_320;
+const ROOM: usize = 2 * (RECORD_HEADER + MOST_CAPTURED as usize);
 
 /// Reads a capture, a record at a time. The source is handed to each call, and must be the same one each time. It is read ahead.
 #[derive(Debug, Drop)]
@@ -29,7 +30,7 @@ pub struct Reader {
 
 impl Model for Reader {
     ghost use Rattle.std.specs.Prelude.{◌≡◌, ◌-◌, ◌≤◌, drop, length};
-    ghost use Rattle.sr_pcap.specs.Reader.{ReaderView};
+    ghost use Rattle.sr_pcap.specs.Reader.{ReaderView, longest_record, reader_room};
 
     ghost Value = { ReaderView };
 
@@ -41,13 +42,13 @@ impl Model for Reader {
       ended = r.ended;
     } };
 
-    ghost invariant = { λ r. (r.size ≤ length r.window.used) × (length r.window.used ≤ 262160) × (r.window.room ≡ 524320) };
+    ghost invariant = { λ r. (r.size ≤ length r.window.used) × (length r.window.used ≤ longest_record) × (r.window.room ≡ reader_room) };
 }
 
 impl Reader {
     /// A window with room for two of the longest records, as a reader needs it.
     pub fn window(alloc: Global) -> Result<Window, AllocError>
-        ensures { IfOk result (λ w. w ≡ new_window 524320) }
+        ensures { IfOk result (λ w. w ≡ new_window reader_room) }
     {
         Window::new(alloc, ROOM)
     }
@@ -72,7 +73,7 @@ impl Reader {
         source: &mut S,
     ) -> Result<Reader, BeginRefusal>
         requires used { window.used ≡ [] }
-        requires room { window.room ≡ 524320 }
+        requires room { window.room ≡ reader_room }
         ensures offset { (n : ℕ) → result ≡ Err (begin.Truncated n) → n ≡ 0 }
         ensures header { (xs : List ℕ) → Pending window (S.known source.old).left xs → Begins result xs (S.known source.new).left }
         ensures link { IfOk result (λ r. (r.format.link ≡ 1) ⊎ (r.format.link ≡ 101)) }
@@ -160,7 +161,7 @@ impl Reader {
     // Uses the record with this header, which is there.
     fn take(&mut self, header: RecordHeader) -> Next
         requires there { 16 + header.size ≤ length self.old.window.unread }
-        requires few { header.size ≤ 262144 }
+        requires few { header.size ≤ most_captured }
         requires going { self.old.ended ≡ None }
         ensures whole { result ≡ Whole header.ms self.old.offset }
         ensures taken { self.new ≡ with_record self.old (take header.size (drop 16 self.old.window.unread)) (passed (16 + header.size) self.old.window) }

@@ -3,6 +3,7 @@ use Rattle.std.specs.Prelude.{◌≡◌, ℕ, ◌≤◌, Bool, false, ℤ, pos, 
 use Rattle.std.specs.List.{list_any, AllByRecursion}
 use Rattle.std.specs.Str.{bytes_eq}
 use Rattle.toml.specs.Data.{Data, Members, as_str, as_integer, as_array, as_table, get_member}
+use Rattle.sr_base.specs.Ranges.{most_pipes, most_buckets, most_digest_bits, most_versions, most_in_pool, most_full_rows, most_filter_bits, most_ring_cells, most_window_ms, most_idle_ms, most_lives, most_vips, most_servers}
 use Rattle.sr_base.specs.declared.shape.Shape.{Shape}
 use Rattle.sr_base.specs.declared.change.Change.{Change}
 use Rattle.sr_base.specs.declared.change.What.{What}
@@ -11,7 +12,7 @@ use Rattle.sr_script.specs.declared.rule.Rule.{Rule}
 use Rattle.sr_script.specs.declared.rule.Rule.TheVariants.{Between, PowerUpTo, FoursUpTo, Below}
 use Rattle.sr_script.specs.Address.{address_of}
 use Rattle.sr_script.specs.Judge.{list_of, keys_of, has, fits}
-use Rattle.sr_script.specs.Spelled.{Address, Spelled, default_shape, shape_keys, top_keys, same_address, addresses_of, pools_of, last_ms, takes_down}
+use Rattle.sr_script.specs.Spelled.{Address, Spelled, default_shape, shape_keys, top_keys, same_address, addresses_of, pools_of, last_ms, takes_down, most_changes}
 
 -- ---- words
 
@@ -86,24 +87,24 @@ SpellsOr key default rule t n = MatchOption (get_member key t) (n ≡ default) (
 -- The table has no other keys than those of a shape. Each number is a whole one in its range, or the default where its key is missing.
 pub record SpellsShape (t : Members) (s : Shape) : Type 0 where
   pub keys : HasOnly shape_keys t
-  pub pipes : SpellsOr (codes "pipes") default_shape.pipes (Between 1 16) t s.pipes
-  pub buckets : SpellsOr (codes "buckets") default_shape.buckets (PowerUpTo 65536) t s.buckets
-  pub digest_bits : SpellsOr (codes "digest_bits") default_shape.digest_bits (Between 0 16) t s.digest_bits
-  pub versions : SpellsOr (codes "versions") default_shape.versions (Between 2 64) t s.versions
-  pub pool_max : SpellsOr (codes "pool_max") default_shape.pool_max (Between 1 255) t s.pool_max
-  pub full_rows : SpellsOr (codes "full_rows") default_shape.full_rows (FoursUpTo 65536) t s.full_rows
-  pub filter_bits : SpellsOr (codes "filter_bits") default_shape.filter_bits (PowerUpTo 1048576) t s.filter_bits
-  pub ring : SpellsOr (codes "ring") default_shape.ring (Between 1 65536) t s.ring
-  pub window_ms : SpellsOr (codes "window_ms") default_shape.window_ms (Between 1 60000) t s.window_ms
-  pub idle_ms : SpellsOr (codes "idle_ms") default_shape.idle_ms (Between 1 86400000) t s.idle_ms
-  pub lives : SpellsOr (codes "lives") default_shape.lives (Between 1 255) t s.lives
+  pub pipes : SpellsOr (codes "pipes") default_shape.pipes (Between 1 most_pipes) t s.pipes
+  pub buckets : SpellsOr (codes "buckets") default_shape.buckets (PowerUpTo most_buckets) t s.buckets
+  pub digest_bits : SpellsOr (codes "digest_bits") default_shape.digest_bits (Between 0 most_digest_bits) t s.digest_bits
+  pub versions : SpellsOr (codes "versions") default_shape.versions (Between 2 most_versions) t s.versions
+  pub pool_max : SpellsOr (codes "pool_max") default_shape.pool_max (Between 1 most_in_pool) t s.pool_max
+  pub full_rows : SpellsOr (codes "full_rows") default_shape.full_rows (FoursUpTo most_full_rows) t s.full_rows
+  pub filter_bits : SpellsOr (codes "filter_bits") default_shape.filter_bits (PowerUpTo most_filter_bits) t s.filter_bits
+  pub ring : SpellsOr (codes "ring") default_shape.ring (Between 1 most_ring_cells) t s.ring
+  pub window_ms : SpellsOr (codes "window_ms") default_shape.window_ms (Between 1 most_window_ms) t s.window_ms
+  pub idle_ms : SpellsOr (codes "idle_ms") default_shape.idle_ms (Between 1 most_idle_ms) t s.idle_ms
+  pub lives : SpellsOr (codes "lives") default_shape.lives (Between 1 most_lives) t s.lives
 
 -- ---- servers, pools and virtual addresses
 
 -- 1 to 65,536 addresses, all different
 pub record SpellsServers (d : Data) (servers : List Address) : Type 0 where
   pub each : SpellsList SpellsAddress d servers
-  pub count : HasCount 1 65536 servers
+  pub count : HasCount 1 most_servers servers
   pub different : EachAfter (IsNew same_address) [] servers
 
 -- 1 to `pool_max` positions among so many servers, all different
@@ -123,7 +124,7 @@ pub record SpellsVip (pool_max servers : ℕ) (d : Data) (v : Address × List �
 -- 1 to 16 virtual addresses, their addresses all different
 pub record SpellsVips (pool_max servers : ℕ) (d : Data) (vips : List (Address × List ℕ)) : Type 0 where
   pub each : SpellsList (SpellsVip pool_max servers) d vips
-  pub count : HasCount 1 16 vips
+  pub count : HasCount 1 most_vips vips
   pub different : EachAfter (λ before v. IsNew same_address (addresses_of before) v.0) [] vips
 
 -- ---- changes
@@ -155,7 +156,7 @@ Follows before c = (last_ms before ≤ c.at_ms) × IsStillUp before c.what
 -- at most 4,096 changes in the order in which they are due
 pub record SpellsChanges (pool_max servers vips : ℕ) (d : Data) (changes : List Change) : Type 0 where
   pub each : SpellsList (SpellsChange pool_max servers vips) d changes
-  pub count : HasCount 0 4096 changes
+  pub count : HasCount 0 most_changes changes
   pub ordered : EachAfter Follows [] changes
 
 -- ---- the script

@@ -25,6 +25,10 @@ abbrev pub shape_keys : List (List ℕ)
 shape_keys = codes "pipes" ∷ codes "buckets" ∷ codes "digest_bits" ∷ codes "versions" ∷ codes "pool_max" ∷ codes "full_rows"
     ∷ codes "filter_bits" ∷ codes "ring" ∷ codes "window_ms" ∷ codes "idle_ms" ∷ codes "lives" ∷ []
 
+-- the most changes of a script
+abbrev pub most_changes : ℕ
+most_changes = 4096
+
 -- the numbers of a shape that says nothing
 abbrev pub default_shape : Shape
 default_shape = record {

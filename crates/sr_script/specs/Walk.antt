@@ -3,6 +3,7 @@ use Rattle.std.specs.Prelude.{ℕ, Bool, true, false, ◌||◌, nat_eq, List, []
 use Rattle.std.specs.List.{list_any}
 use Rattle.std.specs.Str.{bytes_eq}
 use Rattle.toml.specs.Data.{Data, Members, get_member}
+use Rattle.sr_base.specs.Ranges.{most_pipes, most_buckets, most_digest_bits, most_versions, most_in_pool, most_full_rows, most_filter_bits, most_ring_cells, most_window_ms, most_idle_ms, most_lives, most_vips, most_servers}
 use Rattle.sr_base.specs.declared.shape.Shape as shape
 use Rattle.sr_base.specs.declared.change.Change.{Change as change}
 use Rattle.sr_base.specs.declared.change.What.{What}
@@ -13,7 +14,7 @@ use Rattle.sr_script.specs.declared.section.Section.TheVariants.{Top, Shape, Vip
 use Rattle.sr_script.specs.declared.rule.Rule.{Rule}
 use Rattle.sr_script.specs.declared.rule.Rule.TheVariants.{Between, PowerUpTo, FoursUpTo, Below}
 use Rattle.sr_script.specs.Address.{address_of}
-use Rattle.sr_script.specs.Spelled.{Address, Spelled, top_keys, shape_keys, default_shape, same_address, addresses_of, pools_of, last_ms, takes_down}
+use Rattle.sr_script.specs.Spelled.{Address, Spelled, top_keys, shape_keys, default_shape, same_address, addresses_of, pools_of, last_ms, takes_down, most_changes}
 use Rattle.sr_script.specs.Fault.{Judgement, Reading, ◌>>=◌, at_path, each_after}
 use Rattle.sr_script.specs.Path.{key_path, item_path}
 use Rattle.sr_script.specs.Judge.{keys_of, has, wanted, text, elements, table, number, some, at_most, fresh}
@@ -40,17 +41,17 @@ shape_number key default rule t = at_path (key_path Shape key) (number_or defaul
 unfoldable pub shape_in : Members → Reading shape.Shape
 shape_in t = do
   _ ← only_known Shape shape_keys (keys_of t)
-  pipes ← shape_number (codes "pipes") default_shape.pipes (Between 1 16) t
-  buckets ← shape_number (codes "buckets") default_shape.buckets (PowerUpTo 65536) t
-  digest_bits ← shape_number (codes "digest_bits") default_shape.digest_bits (Between 0 16) t
-  versions ← shape_number (codes "versions") default_shape.versions (Between 2 64) t
-  pool_max ← shape_number (codes "pool_max") default_shape.pool_max (Between 1 255) t
-  full_rows ← shape_number (codes "full_rows") default_shape.full_rows (FoursUpTo 65536) t
-  filter_bits ← shape_number (codes "filter_bits") default_shape.filter_bits (PowerUpTo 1048576) t
-  ring ← shape_number (codes "ring") default_shape.ring (Between 1 65536) t
-  window_ms ← shape_number (codes "window_ms") default_shape.window_ms (Between 1 60000) t
-  idle_ms ← shape_number (codes "idle_ms") default_shape.idle_ms (Between 1 86400000) t
-  lives ← shape_number (codes "lives") default_shape.lives (Between 1 255) t
+  pipes ← shape_number (codes "pipes") default_shape.pipes (Between 1 most_pipes) t
+  buckets ← shape_number (codes "buckets") default_shape.buckets (PowerUpTo most_buckets) t
+  digest_bits ← shape_number (codes "digest_bits") default_shape.digest_bits (Between 0 most_digest_bits) t
+  versions ← shape_number (codes "versions") default_shape.versions (Between 2 most_versions) t
+  pool_max ← shape_number (codes "pool_max") default_shape.pool_max (Between 1 most_in_pool) t
+  full_rows ← shape_number (codes "full_rows") default_shape.full_rows (FoursUpTo most_full_rows) t
+  filter_bits ← shape_number (codes "filter_bits") default_shape.filter_bits (PowerUpTo most_filter_bits) t
+  ring ← shape_number (codes "ring") default_shape.ring (Between 1 most_ring_cells) t
+  window_ms ← shape_number (codes "window_ms") default_shape.window_ms (Between 1 most_window_ms) t
+  idle_ms ← shape_number (codes "idle_ms") default_shape.idle_ms (Between 1 most_idle_ms) t
+  lives ← shape_number (codes "lives") default_shape.lives (Between 1 most_lives) t
   Ok (record {
     pipes = pipes;
     buckets = buckets;
@@ -90,7 +91,7 @@ server_in before d = at_path (item_path Top (codes "servers") (length before)) (
 
 -- the values at `servers`: an array of 1 to 65,536
 unfoldable pub server_values : Members → Judgement (List Data)
-server_values t = wanted (codes "servers") t >>= elements >>= some OutOfRange >>= at_most 65536 OutOfRange
+server_values t = wanted (codes "servers") t >>= elements >>= some OutOfRange >>= at_most most_servers OutOfRange
 
 -- the servers of a script, in their order
 unfoldable pub servers_of : Members → Reading (List Address)
@@ -138,7 +139,7 @@ vip_after pool_max servers before d = vip_in pool_max servers (addresses_of befo
 
 -- the values at `vip`: an array of 1 to 16
 unfoldable pub vip_values : Members → Judgement (List Data)
-vip_values t = wanted (codes "vip") t >>= elements >>= some OutOfRange >>= at_most 16 TooManyVips
+vip_values t = wanted (codes "vip") t >>= elements >>= some OutOfRange >>= at_most most_vips TooManyVips
 
 -- the virtual addresses, and their pools
 unfoldable pub vips_in : ℕ → ℕ → List Data → Reading (List Address × List (List ℕ))
@@ -213,7 +214,7 @@ elements_or_none (Some d) = elements d
 
 -- the values at `change`: an array of 4,096 at most, or none
 unfoldable pub change_values : Members → Judgement (List Data)
-change_values t = elements_or_none (get_member (codes "change") t) >>= at_most 4096 TooManyChanges
+change_values t = elements_or_none (get_member (codes "change") t) >>= at_most most_changes TooManyChanges
 
 -- the changes of a script, in their order
 unfoldable pub changes_of : ℕ → ℕ → ℕ → Members → Reading (List change)

@@ -17,6 +17,9 @@ use sr_base::{Change, What};
 use std::alloc::Global;
 use toml::{Table, Value};
 
+/// The most changes of a script.
+const MOST_CHANGES: usize = 4_096;
+
 /// The greatest time of a change, in milliseconds: the whole numbers up to it are those that an `f64` holds exactly, too.
 const LAST_MS: u64 = (1 << 53) - 1;
 
@@ -45,7 +48,7 @@ fn change_values(script: &Table) -> Result<&[Value], Why>
     ensures { seen (λ vs. map view vs.now) result ≡ change_values (table_view script.now) }
 {
     match member(script, "change") {
-        Some(value) => at_most(elements(value)?, 4_096, Why::TooManyChanges),
+        Some(value) => at_most(elements(value)?, MOST_CHANGES, Why::TooManyChanges),
         None => Ok(&[]),
     }
 }

@@ -10,6 +10,7 @@ use crate::fault::{at_item, at_key};
 use crate::section::Section;
 use crate::tree::{elements, text, wanted};
 use crate::{ParseRefusal, Why};
+use sr_base::MOST_SERVERS;
 use std::alloc::Global;
 use toml::{Table, Value};
 
@@ -33,7 +34,7 @@ fn server_values(script: &Table) -> Result<&[Value], Why>
 {
     let value = wanted(script, "servers")?;
     let values = some(elements(value)?, Why::OutOfRange)?;
-    at_most(values, 65_536, Why::OutOfRange)
+    at_most(values, MOST_SERVERS as usize, Why::OutOfRange)
 }
 
 // The servers of the array.

@@ -12,7 +12,10 @@ use crate::rule::{Rule, number};
 use crate::section::Section;
 use crate::tree::{member, table};
 use crate::{ParseRefusal, Why};
-use sr_base::Shape;
+use sr_base::{
+    MOST_BUCKETS, MOST_DIGEST_BITS, MOST_FILTER_BITS, MOST_FULL_ROWS, MOST_IDLE_MS, MOST_IN_POOL,
+    MOST_LIVES, MOST_PIPES, MOST_RING_CELLS, MOST_VERSIONS, MOST_WINDOW_MS, Shape,
+};
 use std::alloc::Global;
 use toml::{Table, Value};
 
@@ -65,21 +68,41 @@ fn shape_in(alloc: Global, table: &Table) -> Result<Shape, ParseRefusal>
 {
     only_known(alloc, Section::Shape, table, &KEYS)?;
     let numbers = ShapeNumbers { alloc, table };
-    let pipes = numbers.read("pipes", DEFAULT.pipes as u64, Between(1, 16))?;
-    let buckets = numbers.read("buckets", DEFAULT.buckets as u64, PowerUpTo(65_536))?;
-    let digest_bits = numbers.read("digest_bits", DEFAULT.digest_bits as u64, Between(0, 16))?;
-    let versions = numbers.read("versions", DEFAULT.versions as u64, Between(2, 64))?;
-    let pool_max = numbers.read("pool_max", DEFAULT.pool_max as u64, Between(1, 255))?;
-    let full_rows = numbers.read("full_rows", DEFAULT.full_rows as u64, FoursUpTo(65_536))?;
+    let pipes = numbers.read("pipes", DEFAULT.pipes as u64, Between(1, MOST_PIPES))?;
+    let buckets = numbers.read(
+        "buckets",
+        DEFAULT.buckets as u64,
+        PowerUpTo(MOST_BUCKETS as u64),
+    )?;
+    let digest_bits = numbers.read(
+        "digest_bits",
+        DEFAULT.digest_bits as u64,
+        Between(0, MOST_DIGEST_BITS),
+    )?;
+    let versions = numbers.read(
+        "versions",
+        DEFAULT.versions as u64,
+        Between(2, MOST_VERSIONS),
+    )?;
+    let pool_max = numbers.read(
+        "pool_max",
+        DEFAULT.pool_max as u64,
+        Between(1, MOST_IN_POOL),
+    )?;
+    let full_rows = numbers.read(
+        "full_rows",
+        DEFAULT.full_rows as u64,
+        FoursUpTo(MOST_FULL_ROWS),
+    )?;
     let filter_bits = numbers.read(
         "filter_bits",
         DEFAULT.filter_bits as u64,
-        PowerUpTo(1_048_576),
+        PowerUpTo(MOST_FILTER_BITS as u64),
     )?;
-    let ring = numbers.read("ring", DEFAULT.ring as u64, Between(1, 65_536))?;
-    let window_ms = numbers.read("window_ms", DEFAULT.window_ms, Between(1, 60_000))?;
-    let idle_ms = numbers.read("idle_ms", DEFAULT.idle_ms, Between(1, 86_400_000))?;
-    let lives = numbers.read("lives", DEFAULT.lives as u64, Between(1, 255))?;
+    let ring = numbers.read("ring", DEFAULT.ring as u64, Between(1, MOST_RING_CELLS))?;
+    let window_ms = numbers.read("window_ms", DEFAULT.window_ms, Between(1, MOST_WINDOW_MS))?;
+    let idle_ms = numbers.read("idle_ms", DEFAULT.idle_ms, Between(1, MOST_IDLE_MS))?;
+    let lives = numbers.read("lives", DEFAULT.lives as u64, Between(1, MOST_LIVES))?;
     Ok(Shape {
         pipes: pipes as u8,
         buckets: buckets as u32,

@@ -13,7 +13,7 @@ use crate::section::Section;
 use crate::servers::new_address;
 use crate::tree::{elements, table, wanted};
 use crate::{ParseRefusal, Why};
-use sr_base::Pool;
+use sr_base::{MOST_VIPS, Pool};
 use std::alloc::Global;
 use toml::{Table, Value};
 
@@ -52,7 +52,7 @@ fn vip_values(script: &Table) -> Result<&[Value], Why>
 {
     let value = wanted(script, "vip")?;
     let values = some(elements(value)?, Why::OutOfRange)?;
-    at_most(values, 16, Why::TooManyVips)
+    at_most(values, MOST_VIPS as usize, Why::TooManyVips)
 }
 
 // The virtual addresses of the array.
