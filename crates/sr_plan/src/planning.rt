@@ -6,22 +6,40 @@ use crate::moves::first_move;
 use crate::rows::first_row;
 use crate::slots::usable;
 use sr_base::{Key, Layout};
-use sr_shadow::{Plan, Shadow, book_rules};
+use sr_shadow::{IndexedBook, Ledger, Plan, Shadow, indexed_book_rules};
 
 /// The plan of a key without a Live place, for a book that was made of this layout: the first way there is to place it.
-#[tactic(auto, unfolding(sr_shadow::specs::Plan::first_plan))]
 pub fn plan(shadow: &Shadow, layout: &Layout, key: Key) -> Plan
     requires made { shadow.now.layout ≡ layout.now }
     requires unplaced { IsUnplaced key shadow.now.book.entries }
     ensures { result ≡ first_plan layout.now.shape shadow.now.book.entries key }
 {
-    if let Some(plan) = slot(shadow, layout, key) {
+    first_way(shadow.indexed(), layout, key)
+}
+
+/// The same for a ledger.
+pub fn plan_in(ledger: &Ledger, layout: &Layout, key: Key) -> Plan
+    requires made { ledger.now.layout ≡ layout.now }
+    requires unplaced { IsUnplaced key ledger.now.book.entries }
+    ensures { result ≡ first_plan layout.now.shape ledger.now.book.entries key }
+{
+    first_way(ledger.indexed(), layout, key)
+}
+
+// The first way there is to place the key.
+#[tactic(auto, unfolding(sr_shadow::specs::Plan::first_plan))]
+fn first_way(indexed: &IndexedBook, layout: &Layout, key: Key) -> Plan
+    requires made { indexed.now.layout ≡ layout.now }
+    requires unplaced { IsUnplaced key indexed.now.book.entries }
+    ensures { result ≡ first_plan layout.now.shape indexed.now.book.entries key }
+{
+    if let Some(plan) = slot(indexed, layout, key) {
         return plan;
     }
-    if let Some(plan) = moves(shadow, layout, key) {
+    if let Some(plan) = moves(indexed, layout, key) {
         return plan;
     }
-    match first_row(shadow, layout, key) {
+    match first_row(indexed, layout, key) {
         Some(plan) => plan,
         None => Plan::NoRoom,
     }
@@ -29,14 +47,14 @@ pub fn plan(shadow: &Shadow, layout: &Layout, key: Key) -> Plan
 
 // The key's first usable slot, if the key is clear.
 #[tactic(auto, using(sr_shadow::proofs::Holding::none_placed))]
-fn slot(shadow: &Shadow, layout: &Layout, key: Key) -> Option<Plan>
-    requires made { shadow.now.layout ≡ layout.now }
-    requires unplaced { IsUnplaced key shadow.now.book.entries }
-    ensures { result ≡ slot_plan layout.now.shape shadow.now.book.entries key }
+fn slot(indexed: &IndexedBook, layout: &Layout, key: Key) -> Option<Plan>
+    requires made { indexed.now.layout ≡ layout.now }
+    requires unplaced { IsUnplaced key indexed.now.book.entries }
+    ensures { result ≡ slot_plan layout.now.shape indexed.now.book.entries key }
 {
-    book_rules(shadow);
-    let place = usable(shadow, layout, key)?;
-    if is_clear_but(shadow, layout, key, key) {
+    indexed_book_rules(indexed);
+    let place = usable(indexed, layout, key)?;
+    if is_clear_but(indexed, layout, key, key) {
         Some(Plan::Slot { place })
     } else {
         None
@@ -45,11 +63,11 @@ fn slot(shadow: &Shadow, layout: &Layout, key: Key) -> Option<Plan>
 
 // The first move.
 #[tactic(auto, using(sr_shadow::proofs::Holding::none_placed))]
-fn moves(shadow: &Shadow, layout: &Layout, key: Key) -> Option<Plan>
-    requires made { shadow.now.layout ≡ layout.now }
-    requires unplaced { IsUnplaced key shadow.now.book.entries }
-    ensures { result ≡ move_plan layout.now.shape shadow.now.book.entries key }
+fn moves(indexed: &IndexedBook, layout: &Layout, key: Key) -> Option<Plan>
+    requires made { indexed.now.layout ≡ layout.now }
+    requires unplaced { IsUnplaced key indexed.now.book.entries }
+    ensures { result ≡ move_plan layout.now.shape indexed.now.book.entries key }
 {
-    book_rules(shadow);
-    first_move(shadow, layout, key)
+    indexed_book_rules(indexed);
+    first_move(indexed, layout, key)
 }

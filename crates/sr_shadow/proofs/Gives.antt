@@ -1,6 +1,6 @@
 -- What the ways to place a key give: slots and rows of its own, which nobody holds.
-use Rattle.std.proofs.Common.{◌≡◌, ◌+◌, ◌*◌, ◌/◌, ◌%◌, ◌<◌, ◌≤◌, ℕ, Bool, true, false, cond, ◌&&◌, ◌||◌, not, List, [], ◌∷◌, ◌++◌, find, Option, None, Some, option_map, refl, sym, ◌∙◌, ap, subst, true≢false, arith}
-use Rattle.std.proofs.lemmas.Bool.{and_from, and_parts, eq-eqb, eqb-true}
+use Rattle.std.proofs.Common.{◌≡◌, ◌+◌, ◌*◌, ◌/◌, ◌%◌, ◌<◌, ◌≤◌, ℕ, Bool, true, false, cond, ◌&&◌, ◌||◌, List, [], ◌∷◌, find, Option, None, Some, refl, sym, ◌∙◌, ap, arith}
+use Rattle.std.proofs.lemmas.Bool.{and_parts, eq-eqb, eqb-true}
 use Rattle.std.proofs.lemmas.Bool.Decides.{nat_tests}
 use Rattle.std.proofs.lemmas.List.Folds.{find-append}
 use Rattle.std.proofs.lemmas.Nat.{mod_below}
@@ -14,7 +14,7 @@ use Rattle.sr_base.specs.declared.shape.Shape.{Shape}
 use Rattle.sr_base.specs.WordName.{HasPlace}
 use Rattle.sr_hash.specs.Keyed.{hash_of}
 use Rattle.sr_hash.specs.Uses.{bucket_of, group_of, is_place_of}
-use Rattle.sr_shadow.specs.Book.{holder_of, is_clashing}
+use Rattle.sr_shadow.specs.Book.{holder_of}
 use Rattle.sr_shadow.specs.Entry.{is_slot}
 use Rattle.sr_shadow.specs.Plan.{is_free, is_usable, key_rows, key_slots, other_way, slots_in, slots_of}
 use Rattle.sr_shadow.specs.declared.entry.Entry.{Entry}

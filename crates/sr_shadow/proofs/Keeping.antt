@@ -1,17 +1,17 @@
 -- The indexes stay those of the entries.
-use Rattle.std.proofs.Common.{◌≡◌, ℕ, zero, suc, ◌+◌, ◌^◌, ◌<◌, ◌≤◌, min, Bool, true, false, List, [], ◌∷◌, ◌++◌, length, drop, Option, None, Some, is_some, refl, sym, ap, ◌∙◌, subst, true≢false, arith}
+use Rattle.std.proofs.Common.{◌≡◌, ℕ, zero, suc, ◌+◌, ◌<◌, ◌≤◌, Bool, true, false, List, [], ◌∷◌, ◌++◌, length, drop, Option, None, Some, is_some, refl, sym, ap, ◌∙◌, subst, true≢false, arith}
 use Rattle.std.specs.Prelude.{slice_get, option_to_list}
 use Rattle.sr_base.specs.Key.{KeyView, IsKey}
 use Rattle.sr_base.specs.Layout.{LayoutView}
 use Rattle.sr_base.specs.declared.place.Place.{Place}
-use Rattle.sr_shadow.specs.Book.{is_registered, holder_of, IsBook}
+use Rattle.sr_shadow.specs.Book.{is_registered, holder_of, most_taken, IsBook}
 use Rattle.sr_shadow.specs.VersionCounts.{Counted}
 use Rattle.sr_shadow.specs.Entry.{holds, is_outside, stands_in, settled, left_other}
 use Rattle.sr_shadow.specs.Holders.{IsHolderTable}
 use Rattle.sr_shadow.specs.KeyNumbers.{Numbered}
 use Rattle.sr_shadow.specs.Rivals.{Tallied}
-use Rattle.sr_shadow.specs.Shadow.{IsShadow, HasRoom}
-use Rattle.sr_shadow.specs.ShadowView.{ShadowView}
+use Rattle.sr_shadow.specs.IndexedBook.{IsIndexed}
+use Rattle.sr_shadow.specs.declared.book.Book.{Book}
 use Rattle.sr_shadow.specs.declared.entry.Entry.{Entry}
 use Rattle.sr_shadow.specs.declared.tally.Tally.{Tally}
 use Rattle.sr_shadow.proofs.Books.{distinct_more, distinct_swap, distinct_less, keys_more, keys_swap, keys_less, leave_more, leave_swap, leave_less, taken_more, taken_swap, taken_less, few_taken}
@@ -21,16 +21,16 @@ use Rattle.sr_shadow.proofs.Places.{holder_more, holder_same, held_alike, once_l
 use Rattle.sr_shadow.proofs.Tables.{counted_same}
 
 -- no more entries than numbers, and far fewer than 64 bits count
-pub few_entries : (es : List Entry) (taken : ℕ) → IsBook es taken → length es ≤ 2 ^ 56
+pub few_entries : (es : List Entry) (taken : ℕ) → IsBook es taken → length es ≤ most_taken
 few_entries es taken b = omega (arith, few_taken 0 taken es b.rising, b.most)
 
 -- one entry more
-pub shadow_more : (l : LayoutView) (es new : List Entry) (taken next : ℕ) (numbers numbers2 : ℕ → Option ℕ) (counts counts2 : List ℕ) (one one2 two two2 : ℕ → Option Tally) (table : List (Option KeyView)) (e : Entry)
-    → new ≡ es ++ e ∷ [] → next ≡ taken + 1 → IsKey e.key → is_registered e.key es ≡ false → e.taken ≡ taken → e.place ≡ None → e.also ≡ None → taken < 2 ^ 56
+pub indexed_more : (l : LayoutView) (es new : List Entry) (taken next : ℕ) (numbers numbers2 : ℕ → Option ℕ) (counts counts2 : List ℕ) (one one2 two two2 : ℕ → Option Tally) (table : List (Option KeyView)) (e : Entry)
+    → new ≡ es ++ e ∷ [] → next ≡ taken + 1 → IsKey e.key → is_registered e.key es ≡ false → e.taken ≡ taken → e.place ≡ None → e.also ≡ None → taken < most_taken
     → Numbered numbers2 (es ++ e ∷ []) → Counted counts2 (es ++ e ∷ []) → Tallied l.shape 1 one2 (es ++ e ∷ []) → Tallied l.shape 2 two2 (es ++ e ∷ [])
-    → IsShadow l es taken numbers counts one two table → IsShadow l new next numbers2 counts2 one2 two2 table
-shadow_more l es new taken next numbers numbers2 counts counts2 one one2 two two2 table e is after key none told at also most n c f s h =
-    subst (λ ys. IsShadow l ys next numbers2 counts2 one2 two2 table) (sym is) (subst (λ t. IsShadow l (es ++ e ∷ []) t numbers2 counts2 one2 two2 table) (sym after) (record {
+    → IsIndexed l es taken numbers counts one two table → IsIndexed l new next numbers2 counts2 one2 two2 table
+indexed_more l es new taken next numbers numbers2 counts counts2 one one2 two two2 table e is after key none told at also most n c f s h =
+    subst (λ ys. IsIndexed l ys next numbers2 counts2 one2 two2 table) (sym is) (subst (λ t. IsIndexed l (es ++ e ∷ []) t numbers2 counts2 one2 two2 table) (sym after) (record {
       book = record {
         distinct = distinct_more es e none h.book.distinct;
         once = once_more es e at also h.book.once;
@@ -47,10 +47,10 @@ shadow_more l es new taken next numbers numbers2 counts counts2 one one2 two two
     }))
 
 -- one that the indexes can't tell from the other
-pub shadow_same : (l : LayoutView) (front back : List Entry) (e f : Entry) (taken : ℕ) (numbers : ℕ → Option ℕ) (counts : List ℕ) (one two : ℕ → Option Tally) (table : List (Option KeyView))
+pub indexed_same : (l : LayoutView) (front back : List Entry) (e f : Entry) (taken : ℕ) (numbers : ℕ → Option ℕ) (counts : List ℕ) (one two : ℕ → Option Tally) (table : List (Option KeyView))
     → f.key ≡ e.key → f.version ≡ e.version → f.place ≡ e.place → f.also ≡ e.also → f.taken ≡ e.taken
-    → IsShadow l (front ++ e ∷ back) taken numbers counts one two table → IsShadow l (front ++ f ∷ back) taken numbers counts one two table
-shadow_same l front back e f taken numbers counts one two table own version at also told h =
+    → IsIndexed l (front ++ e ∷ back) taken numbers counts one two table → IsIndexed l (front ++ f ∷ back) taken numbers counts one two table
+indexed_same l front back e f taken numbers counts one two table own version at also told h =
     let out : is_outside f ≡ is_outside e = rw at refl in
     let stands : (way : ℕ) → stands_in way f ≡ stands_in way e = λ way. rw at refl in
     record {
@@ -70,11 +70,11 @@ shadow_same l front back e f taken numbers counts one two table own version at a
     }
 
 -- one that has moved
-pub shadow_settled : (l : LayoutView) (front back : List Entry) (e : Entry) (place : Place) (taken : ℕ) (numbers : ℕ → Option ℕ) (counts : List ℕ) (one one2 two two2 : ℕ → Option Tally) (table table2 : List (Option KeyView))
+pub indexed_settled : (l : LayoutView) (front back : List Entry) (e : Entry) (place : Place) (taken : ℕ) (numbers : ℕ → Option ℕ) (counts : List ℕ) (one one2 two two2 : ℕ → Option Tally) (table table2 : List (Option KeyView))
     → e.also ≡ None → holder_of place (front ++ e ∷ back) ≡ None → Tallied l.shape 1 one2 (front ++ settled place e ∷ back) → Tallied l.shape 2 two2 (front ++ settled place e ∷ back)
     → IsHolderTable l.shape table2 (front ++ settled place e ∷ back)
-    → IsShadow l (front ++ e ∷ back) taken numbers counts one two table → IsShadow l (front ++ settled place e ∷ back) taken numbers counts one2 two2 table2
-shadow_settled l front back e place taken numbers counts one one2 two two2 table table2 alone free f s held h = record {
+    → IsIndexed l (front ++ e ∷ back) taken numbers counts one two table → IsIndexed l (front ++ settled place e ∷ back) taken numbers counts one2 two2 table2
+indexed_settled l front back e place taken numbers counts one one2 two two2 table table2 alone free f s held h = record {
   book = record {
     distinct = distinct_swap front back e (settled place e) refl h.book.distinct;
     once = once_settled place front back e h.book.once alone free;
@@ -91,10 +91,10 @@ shadow_settled l front back e place taken numbers counts one one2 two two2 table
 }
 
 -- one that has left its other place
-pub shadow_left : (l : LayoutView) (front back : List Entry) (e : Entry) (taken : ℕ) (numbers : ℕ → Option ℕ) (counts : List ℕ) (one two : ℕ → Option Tally) (table table2 : List (Option KeyView))
+pub indexed_left : (l : LayoutView) (front back : List Entry) (e : Entry) (taken : ℕ) (numbers : ℕ → Option ℕ) (counts : List ℕ) (one two : ℕ → Option Tally) (table table2 : List (Option KeyView))
     → IsHolderTable l.shape table2 (front ++ left_other e ∷ back)
-    → IsShadow l (front ++ e ∷ back) taken numbers counts one two table → IsShadow l (front ++ left_other e ∷ back) taken numbers counts one two table2
-shadow_left l front back e taken numbers counts one two table table2 held h = record {
+    → IsIndexed l (front ++ e ∷ back) taken numbers counts one two table → IsIndexed l (front ++ left_other e ∷ back) taken numbers counts one two table2
+indexed_left l front back e taken numbers counts one two table table2 held h = record {
   book = record {
     distinct = distinct_swap front back e (left_other e) refl h.book.distinct;
     once = once_left front back e h.book.once;
@@ -111,10 +111,10 @@ shadow_left l front back e taken numbers counts one two table table2 held h = re
 }
 
 -- one less
-pub shadow_less : (l : LayoutView) (front back : List Entry) (e : Entry) (taken : ℕ) (numbers numbers2 : ℕ → Option ℕ) (counts counts2 : List ℕ) (one one2 two two2 : ℕ → Option Tally) (table table2 : List (Option KeyView))
+pub indexed_less : (l : LayoutView) (front back : List Entry) (e : Entry) (taken : ℕ) (numbers numbers2 : ℕ → Option ℕ) (counts counts2 : List ℕ) (one one2 two two2 : ℕ → Option Tally) (table table2 : List (Option KeyView))
     → Numbered numbers2 (front ++ back) → Counted counts2 (front ++ back) → Tallied l.shape 1 one2 (front ++ back) → Tallied l.shape 2 two2 (front ++ back) → IsHolderTable l.shape table2 (front ++ back)
-    → IsShadow l (front ++ e ∷ back) taken numbers counts one two table → IsShadow l (front ++ back) taken numbers2 counts2 one2 two2 table2
-shadow_less l front back e taken numbers numbers2 counts counts2 one one2 two two2 table table2 n c f s held h = record {
+    → IsIndexed l (front ++ e ∷ back) taken numbers counts one two table → IsIndexed l (front ++ back) taken numbers2 counts2 one2 two2 table2
+indexed_less l front back e taken numbers numbers2 counts counts2 one one2 two two2 table table2 n c f s held h = record {
   book = record {
     distinct = distinct_less front back e h.book.distinct;
     once = once_without front back e h.book.once;
@@ -146,26 +146,11 @@ scan_on place [] (suc i) h = refl
 scan_on place (e ∷ es) zero h = grind (arith, h)
 scan_on place (e ∷ es) (suc i) h = scan_on place es i h
 
--- room stays
-pub room_more : (ready : Option KeyView) (a b c d e f g h : ℕ) → a ≤ e → b ≤ f → c ≤ g → d ≤ h → HasRoom ready a b c d → HasRoom ready e f g h
-room_more None a b c d e f g h p q r s room = tt
-room_more (Some key) a b c d e f g h p q r s room = (omega (arith, p, room.0), omega (arith, q, room.1), omega (arith, r, room.2), omega (arith, s, room.3))
-
--- of more room than for one so much stays as is asked for
-pub room_kept : (ready : Option KeyView) (more a b c d e f g h : ℕ) → 0 < more → min more a ≤ e → b ≤ f → c ≤ g → d ≤ h → HasRoom ready a b c d → HasRoom ready e f g h
-room_kept None more a b c d e f g h some p q r s room = tt
-room_kept (Some key) more a b c d e f g h some p q r s room = (omega (arith, p, room.0), omega (arith, q, room.1), omega (arith, r, room.2), omega (arith, s, room.3))
-
--- room for two is room for one once the first is in
-pub room_left : (ready : Option KeyView) (a b c d e f g h : ℕ) → 2 ≤ a → 2 ≤ b → 2 ≤ c → 2 ≤ d → a ≤ e + 1 → b ≤ f + 1 → c ≤ g + 1 → d ≤ h + 1 → HasRoom ready e f g h
-room_left None a b c d e f g h p q r s t u v w = tt
-room_left (Some key) a b c d e f g h p q r s t u v w = (omega (arith, p, t), omega (arith, q, u), omega (arith, r, v), omega (arith, s, w))
-
 -- books with equal parts
-pub book_is : (l : LayoutView) (r : Option KeyView) (es fs : List Entry) (t u : ℕ) → es ≡ fs → t ≡ u
-    → ◌≡◌ {A = ShadowView} (record { layout = l; book = record { entries = es; taken = t }; ready = r }) (record { layout = l; book = record { entries = fs; taken = u }; ready = r })
-book_is l r es fs t u p q = λ i. record { layout = l; book = record { entries = p i; taken = q i }; ready = r }
+pub book_is : (es fs : List Entry) (t u : ℕ) → es ≡ fs → t ≡ u
+    → ◌≡◌ {A = Book} (record { entries = es; taken = t }) (record { entries = fs; taken = u })
+book_is es fs t u p q = λ i. record { entries = p i; taken = q i }
 
-pub shadow_conv : (l : LayoutView) (es ys : List Entry) (t u : ℕ) (numbers : ℕ → Option ℕ) (counts : List ℕ) (one two : ℕ → Option Tally) (table : List (Option KeyView))
-    → es ≡ ys → t ≡ u → IsShadow l es t numbers counts one two table → IsShadow l ys u numbers counts one two table
-shadow_conv l es ys t u numbers counts one two table p q h = subst (λ n. IsShadow l ys n numbers counts one two table) q (subst (λ zs. IsShadow l zs t numbers counts one two table) p h)
+pub indexed_conv : (l : LayoutView) (es ys : List Entry) (t u : ℕ) (numbers : ℕ → Option ℕ) (counts : List ℕ) (one two : ℕ → Option Tally) (table : List (Option KeyView))
+    → es ≡ ys → t ≡ u → IsIndexed l es t numbers counts one two table → IsIndexed l ys u numbers counts one two table
+indexed_conv l es ys t u numbers counts one two table p q h = subst (λ n. IsIndexed l ys n numbers counts one two table) q (subst (λ zs. IsIndexed l zs t numbers counts one two table) p h)

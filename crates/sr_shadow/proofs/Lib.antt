@@ -2,6 +2,7 @@ pub mod Books
 pub mod Classes
 pub mod Counting
 pub mod Finding
+pub mod Fitting
 pub mod Gives
 pub mod Holding
 pub mod Keeping

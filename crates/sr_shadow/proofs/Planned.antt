@@ -1,5 +1,5 @@
 -- What a plan gives.
-use Rattle.std.proofs.Common.{◌≡◌, ℕ, Bool, true, false, cond, List, [], ◌∷◌, find, Option, None, Some, option_map, refl, sym, ◌∙◌, ap, subst}
+use Rattle.std.proofs.Common.{◌≡◌, ℕ, Bool, true, false, cond, List, [], ◌∷◌, find, Option, None, Some, option_map, refl, ◌∙◌, ap, subst}
 use Rattle.sr_base.specs.Key.{KeyView}
 use Rattle.sr_base.specs.declared.place.Place.{Place}
 use Rattle.sr_base.specs.declared.place.Place.TheVariants.{Row}
@@ -8,7 +8,6 @@ use Rattle.sr_shadow.specs.Book.{CanSettle, DistinctKeys, PlacedLeave, entry_for
 use Rattle.sr_shadow.specs.Entry.{is_of}
 use Rattle.sr_shadow.specs.Plan.{GivesMove, GivesRow, GivesSlot, NobodyLeaves, first_plan, is_free, is_usable, key_rows, key_slots, with_key, with_moved}
 use Rattle.sr_shadow.specs.declared.entry.Entry.{Entry}
-use Rattle.sr_shadow.specs.declared.plan.Plan.{Plan}
 use Rattle.sr_shadow.specs.declared.plan.Plan.TheVariants as plan
 use Rattle.sr_shadow.proofs.Finding.{found_passes, some_is}
 use Rattle.sr_shadow.proofs.Gives.{found_own_row, found_own_slot, free_is, usable_is_free, usable_is_slot}

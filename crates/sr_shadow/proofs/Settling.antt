@@ -1,5 +1,5 @@
 -- A pending key that settles in a slot gives no plan to a key without one: whoever could be placed then could be placed before.
-use Rattle.std.proofs.Common.{◌≡◌, ◌==◌, ◌⊎◌, inl, inr, ℕ, Bool, true, false, cond, ◌&&◌, ◌||◌, not, List, [], ◌∷◌, ◌++◌, find, Option, None, Some, option_map, refl, sym, ◌∙◌, ap, subst, true≢false, arith}
+use Rattle.std.proofs.Common.{◌≡◌, ◌⊎◌, inl, inr, ℕ, Bool, true, false, cond, ◌&&◌, ◌||◌, not, List, [], ◌∷◌, ◌++◌, find, Option, None, Some, option_map, refl, sym, ◌∙◌, ap, subst, true≢false, arith}
 use Rattle.std.proofs.lemmas.Bool.{and_from, and_parts, not-true, or_parts}
 use Rattle.std.proofs.lemmas.Bool.Decides.{nat_tests}
 use Rattle.std.proofs.lemmas.List.{map-append}
@@ -13,13 +13,13 @@ use Rattle.sr_base.specs.declared.place.Place.TheVariants.{Slot, Row}
 use Rattle.sr_base.specs.declared.shape.Shape.{Shape}
 use Rattle.sr_hash.specs.Clash.{clashes}
 use Rattle.sr_hash.specs.Uses.{bucket_of, is_place_of}
-use Rattle.sr_shadow.specs.Book.{entry_for, holder_of, is_clashing, is_registered, is_rival, with_changed, DistinctKeys}
-use Rattle.sr_shadow.specs.Entry.{fresh, holds, is_at, is_of, is_outside, is_row, is_slot, settled}
+use Rattle.sr_shadow.specs.Book.{entry_for, is_clashing, is_registered, is_rival, with_changed, DistinctKeys}
+use Rattle.sr_shadow.specs.Entry.{fresh, holds, is_at, is_of, is_row, is_slot, settled}
 use Rattle.sr_shadow.specs.Plan.{clashes_at, entry_at, first_move, first_plan, first_usable, is_clear, is_clear_but, is_free, is_mistaken, is_mistaken_but, is_usable, key_rows, key_slots, move_at, move_from, move_if_clear, move_to, moved, moved_if, move_of, other_way, row_plan, slot_if_clear, slot_plan, slot_then, slots_of, target, with_key, with_moved}
 use Rattle.sr_shadow.specs.declared.entry.Entry.{Entry}
 use Rattle.sr_shadow.specs.declared.plan.Plan.{Plan}
 use Rattle.sr_shadow.specs.declared.plan.Plan.TheVariants as plan
-use Rattle.sr_base.proofs.Sameness.{same_key-true, same_key-self, same_key-sym, same_place-true}
+use Rattle.sr_base.proofs.Sameness.{same_key-true, same_key-self, same_place-true}
 use Rattle.sr_shadow.proofs.Finding.{find_fewer, found_none, found_passes}
 use Rattle.sr_shadow.proofs.Holding.{found_any}
 use Rattle.sr_shadow.proofs.Later.{no_room_none, none_no_room}

@@ -1,8 +1,9 @@
 -- Steps of the table of counts.
-use Rattle.std.proofs.Common.{◌≡◌, ℕ, ◌+◌, ◌-◌, ◌^◌, ◌<◌, ◌≤◌, List, [], ◌∷◌, ◌++◌, length, set, get_or, refl, sym, ◌∙◌, arith}
+use Rattle.std.proofs.Common.{◌≡◌, ℕ, ◌+◌, ◌-◌, ◌<◌, ◌≤◌, List, [], ◌∷◌, ◌++◌, length, set, get_or, refl, sym, ◌∙◌, arith}
 use Rattle.std.proofs.lemmas.Bool.Decides.{nat_tests}
 use Rattle.std.proofs.lemmas.List.Sums.{count_by-le-length}
 use Rattle.std.proofs.lemmas.Grind.{common_steps}
+use Rattle.sr_shadow.specs.Book.{most_taken}
 use Rattle.sr_shadow.specs.VersionCounts.{cell_of, Counted, FewCounted, HasCounted}
 use Rattle.sr_shadow.specs.Entry.{has_version}
 use Rattle.sr_shadow.specs.declared.entry.Entry.{Entry}
@@ -25,7 +26,7 @@ counted_one table e vip version h =
     grind (arith, common_steps, nat_tests, count_split (has_version e.key.vip e.version) h.0 h.1 e, h.2 e.key.vip e.version vip version)
 
 -- and no number is near its end
-pub counted_few : (table : List ℕ) (vip version : ℕ) → vip < 16 → version < 64 → FewCounted table → get_or table (cell_of vip version) 0 ≤ 2 ^ 56
+pub counted_few : (table : List ℕ) (vip version : ℕ) → vip < 16 → version < 64 → FewCounted table → get_or table (cell_of vip version) 0 ≤ most_taken
 counted_few table vip version hv hn h = omega (arith, h.1 vip version hv hn, count_by-le-length (has_version vip version) h.0, h.2)
 
 -- an entry in the place of another of the same key and version leaves the table

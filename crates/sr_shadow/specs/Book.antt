@@ -1,7 +1,7 @@
 -- The controller's book: the entries of the registered keys in the order of taking. A key is registered where an entry is its.
 use Rattle.std.specs.Prelude.{◌≡◌, ℕ, ◌+◌, ◌^◌, ◌≤◌, Bool, true, false, not, ◌&&◌, nat_le, List, [], ◌∷◌, ◌++◌, map, filter, find, count_by, sum_by, is_some, Option, Some, None, option_map, if◌then◌else◌}
 use Rattle.std.specs.List.{list_any}
-use Rattle.sr_base.specs.Key.{KeyView, IsKey, same_key}
+use Rattle.sr_base.specs.Key.{KeyView, IsKey}
 use Rattle.sr_base.specs.declared.place.Place.{Place}
 use Rattle.sr_base.specs.declared.shape.Shape.{Shape}
 use Rattle.sr_hash.specs.Clash.{clashes}
@@ -144,6 +144,14 @@ abbrev pub TakenFrom : ℕ → List Entry → ℕ → Type 0
 TakenFrom low [] high = low ≤ high
 TakenFrom low (e ∷ entries) high = (low ≤ e.taken) × TakenFrom (e.taken + 1) entries high
 
+-- a key that is registered is about to leave no place
+abbrev pub IsAlone : KeyView → List Entry → Type 0
+IsAlone key entries = (e : Entry) → entry_for key entries ≡ Some e → e.also ≡ None
+
+-- how many entries a book takes
+abbrev pub most_taken : ℕ
+most_taken = 2 ^ 58
+
 -- what holds of every book
 pub record IsBook (entries : List Entry) (taken : ℕ) : Type 0 where
   pub distinct : DistinctKeys entries
@@ -151,4 +159,4 @@ pub record IsBook (entries : List Entry) (taken : ℕ) : Type 0 where
   pub leave : PlacedLeave entries
   pub keys : AreKeys entries
   pub rising : TakenFrom 0 entries taken
-  pub most : taken ≤ 2 ^ 56
+  pub most : taken ≤ most_taken

@@ -2,12 +2,13 @@ pub mod Book
 pub mod Entry
 pub mod Holders
 pub mod Index
+pub mod IndexedBook
 pub mod KeyNumbers
+pub mod Ledger
 pub mod Moves
 pub mod Plan
 pub mod Rivals
 pub mod Roll
-pub mod Shadow
 pub mod ShadowView
 pub mod Taking
 pub mod VersionCounts

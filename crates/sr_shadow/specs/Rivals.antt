@@ -1,11 +1,11 @@
 -- Of one way, how many registered keys are in each class of keys that clash, how many of them are outside the full-key table, and how many
 -- stand in a slot of the way.
-use Rattle.std.specs.Prelude.{◌≡◌, ℕ, ◌+◌, ◌*◌, ◌≤◌, ◌^◌, Bool, ◌&&◌, List, ◌∷◌, ◌++◌, length, Option, Some, None, cond, unwrap_or, count_by}
+use Rattle.std.specs.Prelude.{◌≡◌, ℕ, ◌+◌, ◌*◌, ◌≤◌, Bool, ◌&&◌, List, ◌∷◌, ◌++◌, length, Option, Some, None, cond, unwrap_or, count_by}
 use Rattle.sr_base.specs.Key.{KeyView}
 use Rattle.sr_base.specs.declared.shape.Shape.{Shape}
 use Rattle.sr_hash.specs.Clash.{clashes}
 use Rattle.sr_hash.specs.Uses.{bucket_of, digest_of}
-use Rattle.sr_shadow.specs.Book.{standing_of}
+use Rattle.sr_shadow.specs.Book.{standing_of, most_taken}
 use Rattle.sr_shadow.specs.Entry.{is_outside}
 use Rattle.sr_shadow.specs.declared.entry.Entry.{Entry}
 use Rattle.sr_shadow.specs.declared.tally.Tally.{Tally}
@@ -47,7 +47,7 @@ own_outside (Some e) = cond (is_outside e) 1 0
 
 -- there are few enough entries for 64 bits
 abbrev pub FewTallied : Shape → ℕ → (ℕ → Option Tally) → Type 0
-FewTallied shape way tallies = (es : List Entry) × Tallied shape way tallies es × (length es ≤ 2 ^ 56)
+FewTallied shape way tallies = (es : List Entry) × Tallied shape way tallies es × (length es ≤ most_taken)
 
 -- the entry is one of those tallied
 abbrev pub HasTallied : Shape → ℕ → (ℕ → Option Tally) → Entry → Type 0

@@ -1,5 +1,5 @@
 -- What `Shadow` is seen as: the layout that it was made of, the book, and the key, if any, for whose entry room was made.
-use Rattle.std.specs.Prelude.{ℕ, Bool, false, if◌then◌else◌, Option, None, Some}
+use Rattle.std.specs.Prelude.{ℕ, ◌<◌, MatchOption, Bool, false, if◌then◌else◌, Option, None, Some}
 use Rattle.sr_base.specs.Key.{KeyView, same_key}
 use Rattle.sr_base.specs.Layout.{LayoutView}
 use Rattle.sr_shadow.specs.Book.{empty_book, with_new}
@@ -22,6 +22,10 @@ reserved_for key shadow = record shadow { ready = Some key }
 abbrev pub is_ready : KeyView → Option KeyView → Bool
 is_ready key None = false
 is_ready key (Some ready) = same_key key ready
+
+-- where room was made for a key there is some
+abbrev pub HasRoom : Option KeyView → ℕ → Type 0
+HasRoom ready room = MatchOption ready (Unit {0}) (λ key. 0 < room)
 
 -- the room that is left once a key is taken: the key's own is used, another key's stays
 abbrev pub ready_after : KeyView → Option KeyView → Option KeyView

@@ -1,4 +1,4 @@
-ghost use Rattle.std.specs.Prelude.{◌≡◌, ◌+◌, ◌^◌, ◌<◌, ◌≤◌, ◌&&◌, ◌∷◌, ◌++◌, ℕ, List, [], Option, Some, None, true, false, is_some, nat_le, nat_lt, find, filter, length, drop, slice_get, option_copied, min, IfOk, OnOk};
+ghost use Rattle.std.specs.Prelude.{◌≡◌, ◌+◌, ◌^◌, ◌<◌, ◌≤◌, ◌&&◌, ◌∷◌, ◌++◌, ℕ, List, [], Option, Some, None, true, false, is_some, nat_le, nat_lt, find, filter, length, drop, slice_get, option_copied, IfOk, OnOk};
 ghost use Rattle.std.specs.List.Sorted.{IsPartitionPoint};
 ghost use Rattle.sr_shadow.specs.Entry.{is_pending, is_placed, may_retire};
 ghost use Rattle.sr_shadow.specs.Roll.{entries_in, entry_at, HasEntry, HasNumber, Replaces, kept, Rising, Marked};
@@ -61,11 +61,11 @@ impl Roll {
         self.marks.count()
     }
 
-    // Makes room for so many more entries. Where more than half of the slots are empty they are given up.
+    // Makes room for so many more entries. Where more than half of the slots are empty they are given up. Room that there is stays.
     pub(crate) fn reserve(&mut self, alloc: Global, additional: usize) -> Result<(), AllocError>
         ensures entries { self.new.entries ≡ self.old.entries }
         ensures taken { self.new.taken ≡ self.old.taken }
-        ensures kept { min additional self.old.room ≤ self.new.room }
+        ensures kept { self.old.room ≤ self.new.room }
         ensures lives { self.new.lives ≡ self.old.lives }
         ensures room { OnOk result (additional ≤ self.new.room) }
     {
@@ -76,15 +76,19 @@ impl Roll {
         self.marks.reserve(alloc, additional)
     }
 
-    // Gives up the empty slots. Of the room for entries so much stays as is asked for.
+    // Gives up the empty slots. The marks, which are made anew, have room for so many more entries, and for those that there
+    // was room for.
     fn compact(&mut self, alloc: Global, additional: usize) -> Result<(), AllocError>
         ensures entries { self.new.entries ≡ self.old.entries }
         ensures taken { self.new.taken ≡ self.old.taken }
-        ensures kept { min additional self.old.room ≤ self.new.room }
+        ensures kept { self.old.room ≤ self.new.room }
         ensures lives { self.new.lives ≡ self.old.lives }
     {
         let mut marks = marks_of(alloc, &self.slots, self.marks.lives)?;
-        marks.reserve(alloc, additional)?;
+        marks.reserve(
+            alloc,
+            additional.max(self.slots.capacity() - self.slots.len()),
+        )?;
         self.slots.retain(
             |_number: &u64, slot: &mut Option<Entry>| -> bool
                 ensures { (result ≡ is_some slot.old) × (slot.new ≡ slot.old) }

@@ -6,7 +6,7 @@ use Rattle.sr_plan.proofs.clear.is_clear_but.Goals as goal
 
 pub returns : goal.returns
 returns c =
-    let es = c.args.shadow.now.book.entries in
+    let es = c.args.indexed.now.book.entries in
     let key = c.args.key in
     let shape = c.args.layout.now.shape in
     let first = c.standing.ensures ∙ ap (λ l. standing_of l.shape 1 key es) c.requires.made in
@@ -15,4 +15,4 @@ returns c =
     ap (λ n. eqb (n + c.standing-2.result) c.mistaken_one.result) first
     ∙ ap (λ n. eqb (standing_of shape 1 key es + n) c.mistaken_one.result) second
     ∙ ap (λ n. eqb (standing_of shape 1 key es + standing_of shape 2 key es) n) one
-    ∙ clear_counted shape key c.args.other es c.book_rules.ensures.distinct c.requires.unplaced
+    ∙ clear_counted shape key c.args.other es c.indexed_book_rules.ensures.distinct c.requires.unplaced

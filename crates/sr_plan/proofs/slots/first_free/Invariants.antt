@@ -4,4 +4,4 @@ use Rattle.sr_plan.proofs.slots.first_free.Given as goal
 
 -- the first is among the places that are left
 abbrev pub invariant-loop-place : goal.invariant-loop-place
-invariant-loop-place l = find (is_free l.shadow.book.entries) (drop l.place-index l.places) ≡ find (is_free l.shadow.book.entries) l.places
+invariant-loop-place l = find (is_free l.indexed.book.entries) (drop l.place-index l.places) ≡ find (is_free l.indexed.book.entries) l.places
