@@ -1,19 +1,16 @@
 -- What the controller begins stands as it must: a plan's place is free, and one of its key.
-use Rattle.std.proofs.Common.{◌≡◌, ℕ, zero, suc, ◌<◌, Bool, true, false, cond, List, [], ◌∷◌, length, is_some, is_none, IfSome, slice_index_or, Some, None, Option, option_map, find, sym, refl, ap, ◌∙◌, subst, true≢false, arith}
+use Rattle.std.proofs.Common.{◌≡◌, ℕ, true, cond, List, [], ◌∷◌, is_some, is_none, IfSome, Some, None, Option, option_map, find, sym, refl, ap, subst}
 use Rattle.std.proofs.lemmas.Option.{same_Some}
 use Rattle.std.specs.List.{AllByRecursion}
-use Rattle.sr_base.proofs.Sameness.{same_key-self, same_key-true, same_place-true}
-use Rattle.sr_base.specs.Key.{KeyView, same_key}
+use Rattle.sr_base.specs.Key.{KeyView}
 use Rattle.sr_base.specs.declared.place.Place.{Place}
 use Rattle.sr_base.specs.declared.place.Place.TheVariants.{Row}
 use Rattle.sr_base.specs.declared.shape.Shape.{Shape}
 use Rattle.sr_base.specs.declared.vip_word.Phase.TheVariants.{Steady, Holding}
-use Rattle.sr_inv_facts.specs.InJobs.{AimHolds, AnswerNames, IsGroupHeld, JobHolds, JobsHold, PutHolds, StandsAt, job_taking, leaving, seen}
-use Rattle.sr_inv_facts.specs.InTicks.{same}
+use Rattle.sr_inv_facts.specs.InJobs.{AimHolds, AnswerNames, IsGroupHeld, JobHolds, JobsHold, PutHolds, job_taking, leaving, seen}
 use Rattle.sr_inv_jobs.proofs.JobGoes.{goes_on}
-use Rattle.sr_inv_jobs.proofs.Standing.{registered_some}
+use Rattle.sr_standing.proofs.StandingBegins.{contained_own, move_stands}
 use Rattle.sr_law.specs.declared.line.Line.{Line}
-use Rattle.sr_machine.proofs.Following.{found}
 use Rattle.sr_machine.specs.Begins.{Begins}
 use Rattle.sr_machine.specs.Config.{Config}
 use Rattle.sr_machine.specs.Starting.{Start, put_of, update_to}
@@ -25,10 +22,9 @@ use Rattle.sr_machine.specs.declared.put.Put.{Put}
 use Rattle.sr_shadow.proofs.Finding.{found_passes}
 use Rattle.sr_shadow.proofs.Holding.{found_own}
 use Rattle.sr_shadow.proofs.Later.{no_room_none}
-use Rattle.sr_shadow.proofs.MovedEntry.{planned_move}
 use Rattle.sr_shadow.proofs.Planned.{move_given, row_given, slot_given}
-use Rattle.sr_shadow.specs.Book.{DistinctKeys, entry_for, holder_of, is_registered}
-use Rattle.sr_shadow.specs.Entry.{is_at, may_retire}
+use Rattle.sr_shadow.specs.Book.{DistinctKeys, entry_for, holder_of}
+use Rattle.sr_shadow.specs.Entry.{may_retire}
 use Rattle.sr_shadow.specs.Plan.{is_free, first_plan, key_rows}
 use Rattle.sr_shadow.specs.declared.entry.Entry.{Entry}
 use Rattle.sr_shadow.specs.declared.plan.Plan.{Plan}
@@ -40,36 +36,14 @@ use Rattle.sr_machine.specs.declared.put.Aim.TheVariants as aim
 use Rattle.sr_machine.specs.declared.job.Job.TheVariants as job
 use Rattle.sr_shadow.specs.declared.plan.Plan.TheVariants as plan
 
--- an entry of the book is its key's
-pub contained_own : (es : List Entry) (e : Entry) (n : ℕ) → DistinctKeys es → n < length es → slice_index_or es n e ≡ e
-    → entry_for e.key es ≡ Some e
-contained_own [] e n d h q = absurd (omega arith)
-contained_own (f ∷ es) e zero d h q = subst (λ z. entry_for z.key (f ∷ es) ≡ Some z) q (ap (λ b. cond b (Some f) (entry_for f.key es)) (same_key-self f.key))
-contained_own (f ∷ es) e (suc n) d h q = at (same_key e.key f.key) refl (contained_own es e n d.1 (omega arith) q)
-  where
-    at : (b : Bool) → same_key e.key f.key ≡ b → entry_for e.key es ≡ Some e → entry_for e.key (f ∷ es) ≡ Some e
-    at true t r =
-        let same : e.key ≡ f.key = same_key-true e.key f.key t in
-        absurd (true≢false (sym (registered_some e.key es e r) ∙ (ap (λ z. is_registered z es) same ∙ d.0)))
-    at false t r = ap (λ b. cond b (Some f) (entry_for e.key es)) t ∙ r
-
-at_is : (place : Place) (o : Option Place) → is_at place o ≡ true → o ≡ Some place
-at_is place None e = cc
-at_is place (Some q) e = ap Some (sym (same_place-true place q e))
-
 module _ (shape : Shape) (es : List Entry) (held : List HeldOpener) (d : DistinctKeys es) (key : KeyView) (what : Aim) (own : (place : Place) → AimHolds es held (record { key = key; place = place; aim = what }) what) where
-  move_stands : (other : KeyView) (from to last : Place) → first_plan shape es key ≡ plan.Move other from to last → StandsAt other from es
-  move_stands other from to last e =
-      let m = planned_move shape es key other from to last e in
-      (m.entry, subst (λ z. entry_for z es ≡ Some m.entry) m.own (found_own (λ f. is_at from f.place) es m.entry d m.found), at_is from m.entry.place (found_passes (λ f. is_at from f.place) es m.entry m.found))
-
   put_by : (pl : Plan) (p : Put) → first_plan shape es key ≡ pl → put_of key what pl ≡ Some p → PutHolds shape es held p
   put_by (plan.Slot place) p e q =
       let g = slot_given shape es key place e in
       subst (PutHolds shape es held) (same_Some (record { key = key; place = place; aim = what }) p q) (record { own = g.own; free = g.free; aim = own place })
   put_by (plan.Move other from to last) p e q =
       let g = move_given shape es key other from to last e in
-      subst (PutHolds shape es held) (same_Some (record { key = other; place = to; aim = aim.Move from key }) p q) (record { own = g.to_own; free = g.to_free; aim = (move_stands other from to last e, g.from_slot, g.to_slot) })
+      subst (PutHolds shape es held) (same_Some (record { key = other; place = to; aim = aim.Move from key }) p q) (record { own = g.to_own; free = g.to_free; aim = (move_stands shape es d key other from to last e, g.from_slot, g.to_slot) })
   put_by (plan.FullKey row) p e q =
       let g = row_given shape es key row e in
       subst (PutHolds shape es held) (same_Some (record { key = key; place = Row row; aim = what }) p q) (record { own = g.own; free = g.free; aim = own (Row row) })

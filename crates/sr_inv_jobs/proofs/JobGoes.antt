@@ -17,7 +17,6 @@ use Rattle.sr_machine.specs.Config.{Config}
 use Rattle.sr_machine.specs.Deciding.{is_down}
 use Rattle.sr_machine.specs.declared.held_opener.HeldOpener.{HeldOpener}
 use Rattle.sr_machine.specs.declared.job.Job.{Job}
-use Rattle.sr_machine.specs.Goes as go
 
 -- ---- lines that place, reserve and clear
 

@@ -12,9 +12,9 @@ use Rattle.sr_inv_facts.proofs.Lists.{all_filtered}
 use Rattle.sr_inv_facts.proofs.Printing.{tells}
 use Rattle.sr_inv_facts.specs.InJobs.{AimHolds, AnswerHolds, AnswerNames, ClearedHolds, IsDead, JobsHold, LiveAim, PutHolds, Seen, leaving, seen}
 use Rattle.sr_inv_facts.specs.InShape.{BookFits, EntryFits, JobFits, PlaceFits}
-use Rattle.sr_inv_facts.specs.InTicks.{same}
 use Rattle.sr_inv_jobs.proofs.JobGoes.{goes_on, moved, cleared_tells, down_more, else_tells, left_tells}
-use Rattle.sr_inv_jobs.proofs.Standing.{judged_book_is, left_book, retired_book}
+use Rattle.sr_inv_jobs.proofs.Standing.{left_book, put_stands, retired_book}
+use Rattle.sr_standing.proofs.Judging.{judged_book_is}
 use Rattle.sr_law.specs.Taken.{taken}
 use Rattle.sr_law.specs.declared.line.Line.{Line}
 use Rattle.sr_machine.specs.Config.{Config}
@@ -36,7 +36,6 @@ use Rattle.sr_shadow.specs.Book.{entry_for, holder_of, is_registered, with_chang
 use Rattle.sr_shadow.specs.Entry.{left_other, is_of}
 use Rattle.sr_shadow.specs.declared.entry.Entry.{Entry}
 use Rattle.sr_update.proofs.Dues.{all_find}
-use Rattle.sr_machine.specs.Goes as go
 use Rattle.sr_machine.specs.declared.draw.Draw.TheVariants as draw
 use Rattle.sr_machine.specs.declared.store.Store.TheVariants as store
 use Rattle.sr_machine.specs.declared.wait.Wait.TheVariants as wait
@@ -150,7 +149,7 @@ module _ (k : Config) (c : ControllerView) (b : BookFits k.layout c.book) (x : â
       â†’ After (job.Store (store.Judge p)) (job.Draw (draw.Placed p))
   judged_live p e h =
       let put = h.stands.0 in
-      let t = judged_book_is k.layout.shape c.book c.held p put b.distinct h.once h.also (version_for c.vips c.book.entries p.key) in
+      let t = judged_book_is c.book p (put_stands k.layout.shape c.book.entries c.held p put) b.distinct h.once h.also (version_for c.vips c.book.entries p.key) in
       let new : JobsHold k (judged_seen p false) (job.Draw (draw.Placed p)) lines = record {
         once = t.once;
         also = t.also;

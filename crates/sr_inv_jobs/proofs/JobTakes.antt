@@ -1,22 +1,19 @@
 -- Words that are taken, and what a wait was for, keep what the job stands on.
-use Rattle.std.proofs.Common.{◌≡◌, ℕ, Bool, true, false, List, [], ◌∷◌, is_some, if◌then◌else◌, Some, None, Option, option_map, unwrap_or, sym, refl, ap, ◌∙◌, subst, true≢false}
-use Rattle.std.specs.List.{AllByRecursion}
+use Rattle.std.proofs.Common.{◌≡◌, ℕ, true, false, List, is_some, if◌then◌else◌, Some, None, Option, option_map, unwrap_or, sym, refl, ap, ◌∙◌, subst}
 use Rattle.std.specs.Option.{option_or}
-use Rattle.sr_base.proofs.Sameness.{same_key-true, same_key-self}
+use Rattle.sr_base.proofs.Sameness.{same_key-self}
 use Rattle.sr_base.specs.Key.{KeyView, same_key}
-use Rattle.sr_base.specs.Layout.{LayoutView}
 use Rattle.sr_base.specs.declared.vip_word.Phase.{Phase}
 use Rattle.sr_base.specs.declared.vip_word.Phase.TheVariants.{Steady, Recording, Holding, Transit}
-use Rattle.sr_inv_facts.proofs.Books.{changed_all, found_key}
+use Rattle.sr_inv_facts.proofs.Books.{found_key}
 use Rattle.sr_inv_facts.proofs.Entries.{Succeeds, succeeds_take}
-use Rattle.sr_inv_facts.proofs.Lists.{all_more}
-use Rattle.sr_inv_facts.proofs.Taking.{Takes, TakesBook, same_book, learned_book, closed_book}
+use Rattle.sr_inv_facts.proofs.Taking.{Takes}
 use Rattle.sr_inv_facts.specs.Doing.{OnJudge, OnLived}
-use Rattle.sr_inv_facts.specs.InJobs.{AnswerNames, IsFirst, JobHolds, JobsHold, LiveAim, LiveHolds, PutHolds, Seen, job_taking, leaving, leaving_by, leaving_lived, seen}
+use Rattle.sr_inv_facts.specs.InJobs.{AnswerNames, IsFirst, JobHolds, JobsHold, LiveAim, LiveHolds, PutHolds, Seen, StandsAt, job_taking, leaving, leaving_by, seen}
 use Rattle.sr_inv_jobs.proofs.JobGoes.{as_placed, goes_on}
-use Rattle.sr_inv_jobs.proofs.Standing.{first_taken, live_follows, put_follows, registered_some}
+use Rattle.sr_inv_jobs.proofs.Standing.{first_taken, live_follows, put_follows}
+use Rattle.sr_standing.proofs.StandingTakes.{also_taken, quiet_wait}
 use Rattle.sr_law.specs.declared.line.Line.{Line}
-use Rattle.sr_machine.proofs.Following.{found}
 use Rattle.sr_machine.specs.Config.{Config}
 use Rattle.sr_machine.specs.Deciding.{learned, version_for, ring_count}
 use Rattle.sr_machine.specs.Taking.{Taken}
@@ -29,10 +26,8 @@ use Rattle.sr_machine.specs.declared.put.Aim.{Aim}
 use Rattle.sr_machine.specs.declared.put.Put.{Put}
 use Rattle.sr_machine.specs.declared.wait.Wait.{Wait}
 use Rattle.sr_shadow.specs.Book.{entry_for, is_registered}
-use Rattle.sr_shadow.specs.Entry.{closed, fresh, is_of}
-use Rattle.sr_shadow.specs.declared.book.Book.{Book}
+use Rattle.sr_shadow.specs.Entry.{is_of}
 use Rattle.sr_update.proofs.Dues.{all_find}
-use Rattle.sr_update.specs.Numbers.{NumberRows}
 use Rattle.sr_machine.specs.declared.draw.Draw.TheVariants as draw
 use Rattle.sr_machine.specs.declared.store.Store.TheVariants as store
 use Rattle.sr_machine.specs.declared.wait.Wait.TheVariants as wait
@@ -41,16 +36,6 @@ use Rattle.sr_machine.specs.declared.put.Aim.TheVariants as aim
 use Rattle.sr_machine.specs.declared.job.Job.TheVariants as job
 
 -- ---- the book and the held openers after a take
-
-also_taken : (l : LayoutView) (numbers : NumberRows) (ended : Option KeyView) (x : ℕ) (b d : Book) (j : Job)
-    → ((key : KeyView) → is_registered key b.entries ≡ false → leaving j key ≡ None)
-    → TakesBook l numbers ended x b d → AllByRecursion (λ e. e.also ≡ leaving j e.key) b.entries
-    → AllByRecursion (λ e. e.also ≡ leaving j e.key) d.entries
-also_taken l numbers ended x b d j quiet (same_book u) a = a
-also_taken l numbers ended x b d j quiet (learned_book w q r s f) a =
-    all_more (λ e. e.also ≡ leaving j e.key) b.entries (fresh w.key w.version b.taken ∷ []) a (sym (quiet w.key f), tt)
-also_taken l numbers ended x b d j quiet (closed_book w q r s) a =
-    changed_all (λ e. e.also ≡ leaving j e.key) (λ e. e.also ≡ leaving j e.key) closed w.key (λ e q a. a) (λ e q a. a) b.entries a
 
 module _ (k : Config) (c : ControllerView) (x : ℕ) (lines : List Line) (ended : Option KeyView) (pipe : ℕ) (t : Taken) (is : Takes k c ended pipe x t) where
   -- what is seen after the take
@@ -83,29 +68,18 @@ module _ (k : Config) (c : ControllerView) (x : ℕ) (lines : List Line) (ended 
   wait_stands (wait.Comes u p) h = h
   wait_stands (wait.Release vip n) h = h
 
-  quiet_aim : (p : Put) (a : Aim) (key : KeyView) → is_registered p.key c.book.entries ≡ true
-      → is_registered key c.book.entries ≡ false → leaving_by key p a ≡ None
-  quiet_aim p aim.Pending key r e = refl
-  quiet_aim p (aim.Held o) key r e = refl
-  quiet_aim p (aim.Move from planned) key r e = at (same_key p.key key) refl
-    where
-      at : (b : Bool) → same_key p.key key ≡ b → (if b then Some from else None) ≡ None
-      at true q = absurd (true≢false (sym r ∙ (ap (λ z. is_registered z c.book.entries) (same_key-true p.key key q) ∙ e)))
-      at false q = refl
-
-  quiet_wait : (w : Wait) → OnLived w (LiveHolds c.book.entries c.held) → (key : KeyView) → is_registered key c.book.entries ≡ false
-      → leaving_lived key w ≡ None
-  quiet_wait (wait.Live p) h key e =
-      quiet_aim p p.aim key (registered_some p.key c.book.entries h.stands.0 h.stands.1) e
-  quiet_wait (wait.Judge p) h key e = refl
-  quiet_wait (wait.Retire of) h key e = refl
-  quiet_wait (wait.Comes u p) h key e = refl
-  quiet_wait (wait.Release vip n) h key e = refl
+  -- what was made live stands at its place
+  lived_stands : (w : Wait) → OnLived w (LiveHolds c.book.entries c.held) → OnLived w (λ p. StandsAt p.key p.place c.book.entries)
+  lived_stands (wait.Judge p) h = h
+  lived_stands (wait.Live p) h = h.stands
+  lived_stands (wait.Retire key) h = h
+  lived_stands (wait.Comes u p) h = h
+  lived_stands (wait.Release vip n) h = h
 
   -- the wait goes on over what was taken
   pub drain_on : (count : ℕ) (w : Wait) → JobsHold k (seen c) (job.Drain pipe count w) lines
       → JobsHold k taken_seen (job.Drain pipe count w) lines
-  drain_on count w h = take_on (job.Drain pipe count w) h (quiet_wait w h.stands.1) (wait_stands w h.stands)
+  drain_on count w h = take_on (job.Drain pipe count w) h (quiet_wait c.book.entries w (lived_stands w h.stands.1)) (wait_stands w h.stands)
 
   pub look_on : (at : ℕ) → JobsHold k (seen c) (job.Look at) lines → JobsHold k taken_seen (job.Look at) lines
   look_on at h = take_on (job.Look at) h (λ key e. refl) (tt, tt)

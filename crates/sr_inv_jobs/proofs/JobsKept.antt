@@ -25,7 +25,7 @@ use Rattle.sr_law.specs.declared.line.Line.{Line}
 use Rattle.sr_law.specs.declared.verdict.Verdict.{Verdict}
 use Rattle.sr_machine.proofs.Following.{goes}
 use Rattle.sr_machine.specs.Config.{Config}
-use Rattle.sr_machine.specs.Core.{Core, newest_first, pipe_lines, printed, enters}
+use Rattle.sr_machine.specs.Core.{Core, newest_first, pipe_lines, printed}
 use Rattle.sr_machine.specs.Deciding.{with_named}
 use Rattle.sr_machine.specs.Draws.{answer_line}
 use Rattle.sr_machine.specs.Goes.{Goes, SweepsTo}
@@ -43,7 +43,7 @@ use Rattle.sr_machine.specs.declared.pipe_view.PipeView.{PipeView}
 use Rattle.sr_machine.specs.declared.stage.Stage.{Stage}
 use Rattle.sr_shadow.proofs.Holding.{found_own}
 use Rattle.sr_shadow.specs.Book.{DistinctKeys, entry_for, holder_of, placed_from, with_changed}
-use Rattle.sr_shadow.specs.Entry.{swept, holds, is_of, is_placed}
+use Rattle.sr_shadow.specs.Entry.{swept, is_of, is_placed}
 use Rattle.sr_shadow.specs.declared.entry.Entry.{Entry}
 use Rattle.sr_machine.specs.Goes as go
 use Rattle.sr_machine.specs.declared.draw.Draw.TheVariants as draw

@@ -11,7 +11,6 @@ use Rattle.sr_law.specs.declared.line.Line.{Line}
 use Rattle.sr_law.specs.declared.taking.Taking.{Taking}
 use Rattle.sr_machine.specs.Core.{opening, printed}
 use Rattle.sr_machine.specs.Opening.{opening_controller}
-use Rattle.sr_shadow.specs.Entry.{holds}
 
 none_taken : (lines : List Line) → AllByRecursion (λ l. (place : Place) (older : Option Taking) → taken_after l place older ≡ older) lines
     → (place : Place) → taken lines place ≡ None

@@ -8,7 +8,8 @@ use Rattle.sr_base.specs.declared.shape.Shape.{Shape}
 use Rattle.sr_inv_facts.proofs.Beginning.{begun_by}
 use Rattle.sr_inv_facts.specs.InJobs.{AimHolds}
 use Rattle.sr_inv_facts.specs.Invariant.{Invariant}
-use Rattle.sr_inv_jobs.proofs.JobBegins.{contained_own, planned_holds}
+use Rattle.sr_inv_jobs.proofs.JobBegins.{planned_holds}
+use Rattle.sr_standing.proofs.StandingBegins.{contained_own}
 use Rattle.sr_inv_put.specs.MayPut.{BeginsMayPut, MayEnter, MayPut, MayTake, OnBegun}
 use Rattle.sr_machine.specs.Begins.{Begins}
 use Rattle.sr_machine.specs.Core.{Core}

@@ -5,7 +5,7 @@ use Rattle.sr_base.specs.declared.shape.Shape.{Shape}
 use Rattle.sr_hash.specs.Uses.{is_place_of}
 use Rattle.sr_inv_facts.specs.InJobs.{AimHolds, PutHolds}
 use Rattle.sr_inv_facts.specs.InMatching.{IsClearPut}
-use Rattle.sr_inv_jobs.proofs.Standing.{registered_some}
+use Rattle.sr_standing.proofs.Judging.{registered_some}
 use Rattle.sr_inv_put.specs.MayPut.{MayEnter, MayPut, MayTake}
 use Rattle.sr_machine.specs.declared.held_opener.HeldOpener.{HeldOpener}
 use Rattle.sr_machine.specs.declared.put.Aim.{Aim}

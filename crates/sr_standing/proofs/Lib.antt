@@ -1,0 +1,5 @@
+pub mod Making
+pub mod Judging
+pub mod StandingBegins
+pub mod StandingTakes
+pub mod StandingKept
