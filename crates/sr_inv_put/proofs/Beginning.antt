@@ -1,5 +1,5 @@
 -- What is begun by the first plan may begin.
-use Rattle.std.proofs.Common.{◌≡◌, ℕ, ◌⊎◌, inl, inr, true, List, is_none, IfSome, None, Some, Option, refl, sym, subst}
+use Rattle.std.proofs.Common.{◌≡◌, inl, inr, true, List, is_none, IfSome, None, Some, Option, refl, sym, subst}
 use Rattle.std.proofs.lemmas.Option.{same_Some}
 use Rattle.sr_base.specs.Key.{KeyView}
 use Rattle.sr_base.specs.declared.place.Place.{Place}
@@ -15,7 +15,6 @@ use Rattle.sr_machine.specs.Begins.{Begins}
 use Rattle.sr_machine.specs.Core.{Core}
 use Rattle.sr_machine.specs.Starting.{Start, put_of}
 use Rattle.sr_machine.specs.declared.held_opener.HeldOpener.{HeldOpener}
-use Rattle.sr_machine.specs.declared.job.Job.{Job}
 use Rattle.sr_machine.specs.declared.put.Aim.{Aim}
 use Rattle.sr_machine.specs.declared.put.Put.{Put}
 use Rattle.sr_shadow.proofs.Planned.{move_given, row_given, slot_given}
@@ -25,7 +24,6 @@ use Rattle.sr_shadow.specs.declared.entry.Entry.{Entry}
 use Rattle.sr_shadow.specs.declared.plan.Plan.{Plan}
 use Rattle.sr_machine.specs.Begins as begin
 use Rattle.sr_machine.specs.declared.put.Aim.TheVariants as aim
-use Rattle.sr_machine.specs.declared.job.Job.TheVariants as job
 use Rattle.sr_shadow.specs.declared.plan.Plan.TheVariants as plan
 
 module _ (shape : Shape) (es : List Entry) (key : KeyView) (what : Aim) (into : (p : Put) → MayEnter shape es p → MayTake shape es p what) where

@@ -1,6 +1,5 @@
 -- What the condition gives.
-use Rattle.std.proofs.Common.{◌≡◌, ℕ, ◌⊎◌, inl, inr, true, false, List, None, refl, sym, ◌∙◌, subst, true≢false}
-use Rattle.sr_base.specs.declared.place.Place.TheVariants.{Row}
+use Rattle.std.proofs.Common.{◌≡◌, inl, inr, true, false, List, None, refl, sym, ◌∙◌, subst, true≢false}
 use Rattle.sr_base.specs.declared.shape.Shape.{Shape}
 use Rattle.sr_hash.specs.Uses.{is_place_of}
 use Rattle.sr_inv_facts.specs.InJobs.{AimHolds, PutHolds}
@@ -12,7 +11,7 @@ use Rattle.sr_machine.specs.declared.put.Aim.{Aim}
 use Rattle.sr_machine.specs.declared.put.Put.{Put}
 use Rattle.sr_shadow.proofs.Gives.{usable_is_free}
 use Rattle.sr_shadow.proofs.Moving.{counted_holder}
-use Rattle.sr_shadow.specs.Book.{holder_of, is_registered}
+use Rattle.sr_shadow.specs.Book.{holder_of}
 use Rattle.sr_shadow.specs.Entry.{is_slot}
 use Rattle.sr_shadow.specs.Plan.{with_key}
 use Rattle.sr_shadow.specs.declared.entry.Entry.{Entry}

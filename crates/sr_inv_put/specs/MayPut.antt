@@ -6,7 +6,6 @@ use Rattle.sr_hash.specs.Uses.{is_place_of}
 use Rattle.sr_inv_facts.specs.InJobs.{AimHolds}
 use Rattle.sr_machine.specs.Core.{Core}
 use Rattle.sr_machine.specs.Starting.{begun}
-use Rattle.sr_machine.specs.declared.controller_view.ControllerView.{ControllerView}
 use Rattle.sr_machine.specs.declared.held_opener.HeldOpener.{HeldOpener}
 use Rattle.sr_machine.specs.declared.job.Job.{Job}
 use Rattle.sr_machine.specs.declared.job.Job.TheVariants.{Draw, Free}
