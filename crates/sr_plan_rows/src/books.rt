@@ -2,19 +2,24 @@ ghost use Rattle.std.specs.Prelude.{◌≤◌};
 
 use crate::scene::Scene;
 use sr_base::{Key, Layout, Shape, layout_ranges};
-use sr_hash::bucket;
+use sr_hash::{bucket, group};
 use sr_plan::Plan;
 use std::alloc::{AllocError, Global};
 
 // So many buckets of each way, digests of so many bits, four rows.
 pub(crate) fn layout_of(buckets: u32, digest_bits: u8) -> Option<Layout> {
+    layout_with(buckets, digest_bits, 4)
+}
+
+// And so many rows.
+pub(crate) fn layout_with(buckets: u32, digest_bits: u8, full_rows: u32) -> Option<Layout> {
     let shape = Shape {
         pipes: 1,
         buckets,
         digest_bits,
         versions: 64,
         pool_max: 1,
-        full_rows: 4,
+        full_rows,
         filter_bits: 1,
         ring: 8,
         window_ms: 10,
@@ -38,6 +43,18 @@ pub(crate) fn bucket_of(layout: &Layout, way: u8, key: Key) -> u32
 {
     layout_ranges(layout);
     bucket(way, key, layout.shape().buckets)
+}
+
+// A client in this group of rows.
+pub(crate) fn client_in(layout: &Layout, wanted: u32) -> Option<Key> {
+    layout_ranges(layout);
+    for port in 4000..4040 {
+        let key = client(9, port);
+        if group(key, layout.shape().full_rows) == wanted {
+            return Some(key);
+        }
+    }
+    None
 }
 
 // Which kind of plan it is.

@@ -2,6 +2,7 @@
 #![tactic(auto)]
 
 mod books;
+mod ledgers;
 #[cfg(test)]
 mod rows;
 mod scene;

@@ -1,7 +1,8 @@
 //! The worked rows of the plan, and both bodies on many books.
-use crate::books::{bucket_of, client, kinds, layout_of};
+use crate::books::{bucket_of, client, client_in, kinds, layout_of, layout_with};
+use crate::ledgers::last_plan;
 use crate::scene::Scene;
-use sr_base::{Layout, Place};
+use sr_base::{Key, Layout, Place};
 use sr_plan::Plan;
 use std::alloc::{AllocError, Global};
 use std::test::Fail;
@@ -82,6 +83,80 @@ fn a_move(rt: HostRuntime) -> Result<(), Fail> {
         then: cell_of(2, bucket_of(&layout, 2, b)),
     };
     assert_eq!(rt; plan_beside_of(rt.alloc(), layout)?, Some(planned));
+    Ok(())
+}
+
+// The row has a client.
+fn fill_row(scene: &mut Scene, alloc: Global, row: u32) -> Result<(), AllocError> {
+    let key = client(10 + row.min(7) as u8, 4000);
+    scene.take(alloc, key)?;
+    scene.settle(key, Place::Row { row });
+    Ok(())
+}
+
+// Rows 4 to 7 are filled, and two keys come. The second's plan, before the first has settled in row 0, or once it has.
+fn plan_around(
+    scene: &mut Scene,
+    alloc: Global,
+    first: Key,
+    second: Key,
+    settled: bool,
+) -> Result<Option<Plan>, AllocError> {
+    for row in 4..8 {
+        fill_row(scene, alloc, row)?;
+    }
+    scene.take(alloc, first)?;
+    scene.take(alloc, second)?;
+    if settled {
+        scene.settle(first, Place::Row { row: 0 });
+    }
+    Ok(scene.plan(second))
+}
+
+fn plan_around_of(
+    alloc: Global,
+    layout: Layout,
+    first: Key,
+    second: Key,
+    settled: bool,
+) -> Result<Option<Plan>, AllocError> {
+    let mut scene = Scene::new(alloc, layout)?;
+    plan_around(&mut scene, alloc, first, second, settled)
+}
+
+// All keys clash, and there are two groups of rows: a key that settles in a row makes room for one whose rows are full.
+#[test]
+fn a_row_makes_room(rt: HostRuntime) -> Result<(), Fail> {
+    let alloc = rt.alloc();
+    let layout = layout_with(1, 0, 8).expect(&rt, "a layout");
+    let first = client_in(&layout, 0).expect(&rt, "a client of rows 0 to 3");
+    let second = client_in(&layout, 1).expect(&rt, "a client of rows 4 to 7");
+    let place = cell_of(1, 0);
+    assert_eq!(rt;
+        plan_around_of(alloc, layout, first, second, false)?,
+        Some(Plan::NoRoom)
+    );
+    assert_eq!(rt;
+        plan_around_of(alloc, layout, first, second, true)?,
+        Some(Plan::Slot { place })
+    );
+    Ok(())
+}
+
+// All keys clash: a key has a row beside the one in a slot, and the slot where that one is over.
+#[test]
+fn a_ledger_places_keys(rt: HostRuntime) -> Result<(), Fail> {
+    let alloc = rt.alloc();
+    let layout = layout_of(1, 0).expect(&rt, "a layout");
+    let place = cell_of(1, 0);
+    assert_eq!(rt;
+        last_plan(alloc, &layout, false)?,
+        Some(Plan::FullKey { row: 0 })
+    );
+    assert_eq!(rt;
+        last_plan(alloc, &layout, true)?,
+        Some(Plan::Slot { place })
+    );
     Ok(())
 }
 
