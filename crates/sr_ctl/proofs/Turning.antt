@@ -39,7 +39,7 @@ module _ (k : Config) where
   NotOver c [] = Unit {0}
   NotOver c (x ∷ xs) = (end_of k c x ≡ None) × NotOver (controller_after k c x) xs
 
-  step_not_over : (c : ControllerView) (x : ℕ) (ys : List ℕ) → end_of k c x ≡ None
+  pub step_not_over : (c : ControllerView) (x : ℕ) (ys : List ℕ) → end_of k c x ≡ None
       → turn_by k c (x ∷ ys) ≡ turn_by k (controller_after k c x) ys
   step_not_over c x ys e =
       ap (λ o. ends_with (controller_after k c x) o ys (turn_from k (controller_after k c x) ys)) e

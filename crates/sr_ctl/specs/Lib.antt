@@ -1,4 +1,5 @@
 pub mod Causes
+pub mod Laws
 pub mod Needs
 pub mod SeenController
 pub mod Settles

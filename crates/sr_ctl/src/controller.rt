@@ -1,5 +1,5 @@
 ghost use Rattle.std.specs.Prelude.{◌≡◌, ℕ, ◌+◌, ◌^◌, ◌<◌, ◌≤◌, ◌↔◌, true, false, option_map, None, Some, IfOk, IsTrue, if◌then◌else◌};
-ghost use Rattle.sr_ctl.specs.Needs.{makes_room};
+ghost use Rattle.sr_ctl.specs.Needs.{is_look, makes_room};
 ghost use Rattle.sr_ctl.specs.SeenController.{IsFor};
 ghost use Rattle.sr_ctl.specs.Turned.{Makes};
 ghost use Rattle.sr_machine.specs.Boards.{StaysAtRest};
@@ -60,6 +60,13 @@ impl Controller {
         ensures { result.now ≡ self.now.config }
     {
         self.machine.config()
+    }
+
+    /// Between turns no look at the rings is in progress.
+    pub fn between_turns(&self)
+        ensures { is_look self.now.view.job ≡ false }
+    {
+        let _ = &self.machine;
     }
 
     /// Whether it can be told this time: its clock doesn't fall.

@@ -7,12 +7,15 @@
 //! | The steps of a turn | `acting` | `Steps` |
 //! | Turns until nothing is left to do | `settling`, `went` | `Settles` |
 //! | Why a turn answers what it does | | `Causes` |
+//! | What the turns are to the machine | `meaning` | `Laws` |
 //! | Which turns make room, and how much | | `Needs` |
 #![tactic(auto)]
 
 mod acting;
 mod controller;
+mod meaning;
 mod settling;
 mod went;
 
 pub use controller::Controller;
+pub use meaning::settling_is_the_machines;

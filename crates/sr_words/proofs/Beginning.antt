@@ -18,7 +18,7 @@ use Rattle.sr_machine.specs.declared.actor.Actor.TheVariants.{Pipe, Controller}
 use Rattle.sr_machine.specs.declared.view.View.TheVariants.{OfPipe}
 use Rattle.sr_inv_facts.specs.Fitted.{IsFitted}
 use Rattle.sr_words.specs.Rule.{Ruled}
-use Rattle.sr_words.specs.Seats.{AllShown, first_seated, first_views, times_in}
+use Rattle.sr_words.specs.Seats.{AllShown, IsSure, first_seated, first_views, times_in}
 use Rattle.sr_words.specs.declared.seated.Seated.{Seated}
 use lib.ListN.{get_elem?}
 use mathlib.Core.Option.{some, some-injective, some-ne-none}
@@ -88,8 +88,15 @@ module _ (k : Config) where
     words = shows;
     shown = λ id seat e. only id seat e;
     apart = λ a. let h = first_claims a in omega arith;
+    sure = λ id seat e. unsure id seat e;
   }
     where
+      unsure : (id : ℕ) (seat : Seated) → get_elem? (first_seated k ∷ []) id ≡ some seat
+          → IsSure (opening_table list [] (first_seated k)) id seat.words
+      unsure zero seat e =
+          subst (λ (v : Seated). IsSure (opening_table list [] (first_seated k)) 0 v.words) (some-injective (first_seated k) seat e) tt
+      unsure (suc id) seat e = absurd (some-ne-none seat (sym e))
+
       only : (id : ℕ) (seat : Seated) → get_elem? (first_seated k ∷ []) id ≡ some seat → AllShown (opening k) seat.actors
       only zero seat e = subst (λ (v : Seated). AllShown (opening k) v.actors) (some-injective (first_seated k) seat e) first_shown
       only (suc id) seat e = absurd (some-ne-none seat (sym e))

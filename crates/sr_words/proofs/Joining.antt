@@ -1,12 +1,12 @@
 -- The boards of idle pipes, joined to the controller's, rest.
-use Rattle.std.proofs.Common.{◌≡◌, ◌∙◌, ℕ, zero, suc, ◌+◌, ◌<◌, ◌==◌, ◌&&◌, Bool, true, List, [], ◌∷◌, ◌++◌, length, map, replicate, slice_index_or, take, drop, Some, refl, sym, ap, arith}
+use Rattle.std.proofs.Common.{◌≡◌, ◌∙◌, ℕ, zero, suc, ◌+◌, ◌<◌, ◌==◌, ◌&&◌, Bool, true, List, [], ◌∷◌, ◌++◌, length, map, replicate, slice_index_or, take, drop, Option, None, Some, option_map, refl, sym, ap, arith}
 use Rattle.std.proofs.lemmas.Bool.Decides.{nat_tests}
 use Rattle.std.proofs.lemmas.List.{append_assoc, append-nil}
 use Rattle.std.specs.List.{list_all, range_with_len}
 use Rattle.atomic_table.specs.Seated.{TableId}
 use Rattle.sr_base.specs.Layout.{LayoutView}
 use Rattle.sr_machine.specs.Config.{Config}
-use Rattle.sr_machine.specs.Pipe.{is_idle}
+use Rattle.sr_machine.specs.Pipe.{entered, is_idle}
 use Rattle.sr_machine.specs.declared.controller_view.ControllerView.{ControllerView}
 use Rattle.sr_machine.specs.declared.pipe_view.PipeView.{PipeView}
 use Rattle.sr_machine.specs.declared.view.View.{View}
@@ -16,7 +16,7 @@ use Rattle.sr_words.proofs.Launching.{mapped_twice}
 use Rattle.sr_words.specs.Boarding.{AreAtRest, FitIdle, HeldBoard, held, is_controlled, number_of, views_of}
 use Rattle.sr_words.specs.Besides.{all_but_first}
 use Rattle.sr_words.specs.Hearing.{told}
-use Rattle.sr_words.specs.Laws.{BoardsKnowPipes}
+use Rattle.sr_words.specs.Laws.{BoardsKnowController, BoardsKnowPipes}
 use Rattle.sr_words.specs.Steps.{FitsSeat}
 use Rattle.sr_words.specs.declared.seated.Seated.{Seated}
 use Rattle.sr_words.specs.declared.heard.Heard.{Heard}
@@ -118,6 +118,25 @@ boards_know made_for seat h k v f alone =
     let n = told_number k h f.1 v f.4 in
     let none : f.2 ≡ [] = ap all_but_first (sym f.3) ∙ alone in
     ap number_of (f.3 ∙ ap (λ x. x ∷ f.2) n.1 ∙ ap (λ xs. OfPipe n.0 ∷ xs) none) ∙ ap (λ m. m + 1) n.2
+
+-- and one that fits a view of the controller is the controller's
+no_pipe_told : (o : Option PipeView) (c : ControllerView) → option_map OfPipe o ≡ Some (OfController c) → ⊥
+no_pipe_told None c e = cc
+no_pipe_told (Some v) c e = cc
+
+told_controller : (k : Config) (h : Heard) (x : View) (c : ControllerView) → told h k x ≡ Some (OfController c) → (d : ControllerView) × (x ≡ OfController d)
+told_controller k h (OfController d) c e = (d, refl)
+told_controller k Nothing (OfPipe u) c e = cc
+told_controller k (Entered packet) (OfPipe u) c e = absurd (no_pipe_told (entered k.layout packet u) c e)
+told_controller k (Time ms) (OfPipe u) c e = cc
+told_controller k (Refusal None after) (OfPipe u) c e = cc
+told_controller k (Refusal (Some ms) after) (OfPipe u) c e = cc
+
+pub boards_know_controller : BoardsKnowController
+boards_know_controller made_for seat h k c f alone =
+    let n = told_controller k h f.1 c f.4 in
+    let none : f.2 ≡ [] = ap all_but_first (sym f.3) ∙ alone in
+    ap is_controlled (f.3 ∙ ap (λ x. x ∷ f.2) n.1 ∙ ap (λ xs. OfController n.0 ∷ xs) none)
 
 -- ---- one board after the other
 

@@ -1,3 +1,4 @@
+mod Alone
 mod AtRest
 mod Beginning
 mod Claims

@@ -1,5 +1,5 @@
 -- A seat's step keeps the rule, and is one that the machine makes.
-use Rattle.std.proofs.Common.{◌≡◌, ◌≢◌, ◌∙◌, ℕ, ◌+◌, ◌≤◌, ◌%◌, ◌^◌, Bool, List, [], ◌∷◌, length, set, Some, bit_or, slice_index, refl, sym, ap, subst, ⊎_elim, arith, if◌then◌else◌}
+use Rattle.std.proofs.Common.{◌≡◌, ◌≢◌, ◌∙◌, ℕ, ◌+◌, ◌≤◌, ◌%◌, ◌^◌, Bool, List, [], ◌∷◌, length, set, Option, Some, None, bit_or, slice_index, refl, sym, ap, subst, ⊎_elim, arith, if◌then◌else◌}
 use Rattle.std.proofs.lemmas.List.{length-set}
 use Rattle.std.proofs.lemmas.Option.{same_Some}
 use Rattle.atomic_table.proofs.Lists.{at_set}
@@ -10,7 +10,7 @@ use Rattle.sr_core.proofs.Showing.{shows_store}
 use Rattle.sr_core.specs.PlainWords.{ShowsWords}
 use Rattle.sr_machine.proofs.Words.{named_there, rewritten_same}
 use Rattle.sr_base.specs.declared.word_name.WordName.{WordName}
-use Rattle.sr_machine.specs.Boards.{FitsAfter, IsNext}
+use Rattle.sr_machine.specs.Boards.{FitsAfter, IsNext, ShowsAfter}
 use Rattle.sr_machine.specs.Config.{Config}
 use Rattle.sr_machine.specs.Core.{view_after, view_at, view_op}
 use Rattle.sr_machine.specs.Names.{name_for, rewritten, word_name}
@@ -25,7 +25,7 @@ use Rattle.sr_words.proofs.Follows.{Follows, after_actor, follows_self, follows_
 use Rattle.sr_words.specs.Besides.{all_but_first}
 use Rattle.sr_words.specs.Hearing.{IsGood, told}
 use Rattle.sr_words.specs.Rule.{Ruled}
-use Rattle.sr_words.specs.Seats.{AllShown, actor_of, claimed, same_actor, seated, times_in}
+use Rattle.sr_words.specs.Seats.{AllShown, IsSure, ShowsKnown, actor_of, claimed, same_actor, seated, still_known, times_in}
 use Rattle.sr_words.specs.Steps.{FitsSeat, IsStepFrom, Looks, Makes}
 use Rattle.sr_words.specs.declared.heard.Heard.{Heard}
 use Rattle.sr_words.specs.declared.heard.Heard.TheVariants.{Nothing}
@@ -79,6 +79,10 @@ module _ (k : Config) (t : State (Unit {0}) Seated) (r : Ruled k t) (id : ℕ) (
 
   -- the views after a step of the seat
   module _ (z : View) (words : Name → ℕ) (f : Follows k r.state (actor_of x) z words) where
+    -- the seat then, once the table's words are these
+    abbrev then_seat : List ℕ → Seated
+    then_seat list = record { actors = z ∷ rest; words = still_known v.words list }
+
     shown_rest : AllShown f.state rest
     shown_rest =
         shown_others r.state f.state (actor_of x) rest f.others own_claim
@@ -87,30 +91,55 @@ module _ (k : Config) (t : State (Unit {0}) Seated) (r : Ruled k t) (id : ℕ) (
     pub shown_seat : AllShown f.state (z ∷ rest)
     shown_seat = (subst (λ (a : Actor). view_at f.state a ≡ Some z) (sym f.actor) f.here, shown_rest)
 
-    shown_after : (j : ℕ) (w : Seated) → get_elem? (set t.views id (seated (z ∷ rest))) j ≡ some w → AllShown f.state w.actors
-    shown_after j w e =
+    shown_after : (list : List ℕ) (j : ℕ) (w : Seated) → get_elem? (set t.views id (then_seat list)) j ≡ some w → AllShown f.state w.actors
+    shown_after list j w e =
         ⊎_elim (λ p. subst (λ (u : Seated). AllShown f.state u.actors) p.1 shown_seat)
         (λ p. shown_others r.state f.state (actor_of x) w.actors f.others (other_claim j w p.0 p.1) (r.shown j w p.1))
-        (at_set t.views id j (seated (z ∷ rest)) w e)
+        (at_set t.views id j (then_seat list) w e)
 
-    apart_after : (a : Actor) → claimed a (set t.views id (seated (z ∷ rest))) ≤ 1
-    apart_after a =
-        let c = claimed_set a t.views id v (seated (z ∷ rest)) at in
+    apart_after : (list : List ℕ) (a : Actor) → claimed a (set t.views id (then_seat list)) ≤ 1
+    apart_after list a =
+        let c = claimed_set a t.views id v (then_seat list) at in
         let most = r.apart a in
         let same : times_in a v.actors ≡ times_in a (z ∷ rest) =
         ap (times_in a) is ∙ ap (λ (b : Actor). (if same_actor a b then 1 else 0) + times_in a rest) (sym f.actor) in
         omega arith
 
-    ruled_after : (list : List ℕ) → words_of k.layout ≤ length list → ShowsWords k.layout list words
-        → Ruled k (record { words = list; homes = t.homes; views = set t.views id (seated (z ∷ rest)) })
+    -- the table then
+    abbrev then_table : List ℕ → State (Unit {0}) Seated
+    then_table list = record { words = list; homes = t.homes; views = set t.views id (then_seat list) }
+
+    own_sure : (list : List ℕ) (o : Option (List ℕ)) → IsSure t id o → IsSure (then_table list) id (still_known o list)
+    own_sure list None h = tt
+    own_sure list (Some old) h =
+        (refl, λ j w n e. ⊎_elim (λ p. absurd (n p.0)) (λ p. h.1 j w p.0 p.1) (at_set t.views id j (then_seat list) w e))
+
+    -- no other seat knows the words, since this one has an actor
+    no_other_sure : (list : List ℕ) (j : ℕ) (o : Option (List ℕ)) → j ≢ id → IsSure t j o → IsSure (then_table list) j o
+    no_other_sure list j None n h = tt
+    no_other_sure list j (Some old) n h =
+        let none : v.actors ≡ [] = h.1 id v (λ e. n (sym e)) at in
+        let some_view : v.actors ≡ x ∷ rest = is in absurd (cc)
+
+    sure_after : (list : List ℕ) (j : ℕ) (w : Seated) → get_elem? (set t.views id (then_seat list)) j ≡ some w
+        → IsSure (then_table list) j w.words
+    sure_after list j w e =
+        ⊎_elim
+        (λ p. subst (λ (u : Seated). IsSure (then_table list) j u.words) p.1
+        (subst (λ (i : ℕ). IsSure (then_table list) i (still_known v.words list)) (sym p.0) (own_sure list v.words (r.sure id v at))))
+        (λ p. no_other_sure list j w.words p.0 (r.sure j w p.1))
+        (at_set t.views id j (then_seat list) w e)
+
+    ruled_after : (list : List ℕ) → words_of k.layout ≤ length list → ShowsWords k.layout list words → Ruled k (then_table list)
     ruled_after list wide shows = record {
       fitted = r.fitted;
       state = f.state;
       reached = f.reached;
       wide = wide;
       words = subst (λ (w : Name → ℕ). ShowsWords k.layout list w) (sym f.words) shows;
-      shown = shown_after;
-      apart = apart_after;
+      shown = shown_after list;
+      apart = apart_after list;
+      sure = sure_after list;
     }
 
 -- ---- a step
@@ -121,9 +150,15 @@ module _ (k : Config) (h : Heard) (slots id : ℕ) (v : Seated) (x y : View) (re
   abbrev place : ℕ
   place = place_of k.layout (word_name (op_name o))
 
+  -- the seat after the step, which answered this, once the table's words are these
+  abbrev pub stepped_seat : ℕ → List ℕ → Seated
+  stepped_seat n list = record { actors = view_after k y n ∷ rest; words = still_known v.words list }
+
   -- what the step tells
-  pub makes_of : (n : ℕ) → IsStepFrom k (y ∷ rest) o n → Makes k h v n (seated (view_after k y n ∷ rest))
-  makes_of n step x2 y2 rest2 o2 is2 heard2 next2 =
+  pub makes_of : (n : ℕ) (list : List ℕ) → IsStepFrom k (y ∷ rest) o n
+      → ShowsAfter (ShowsKnown k.layout v.words) o n (ShowsKnown k.layout (still_known v.words list))
+      → Makes k h v n (stepped_seat n list)
+  makes_of n list step told_words x2 y2 rest2 o2 is2 heard2 next2 =
       let xs : x ∷ rest ≡ x2 ∷ rest2 = sym is ∙ is2 in
       let first : x ≡ x2 = cc in
       let others : rest ≡ rest2 = cc in
@@ -133,7 +168,25 @@ module _ (k : Config) (h : Heard) (slots id : ℕ) (v : Seated) (x y : View) (re
         subst (λ (p : Op). IsStepFrom k (y2 ∷ rest2) p n) os
             (subst (λ (l : List View). IsStepFrom k (y2 ∷ l) o n) others
             (subst (λ (u : View). IsStepFrom k (u ∷ rest) o n) ys step)),
+        subst (λ (p : Op). ShowsAfter (ShowsKnown k.layout v.words) p n (ShowsKnown k.layout (still_known v.words list))) os told_words,
       )
+
+  -- where the seat knows the words, it knows them after the step too
+  known_after : (n : ℕ) (known : Option (List ℕ)) (list : List ℕ) → words_of k.layout ≤ length list
+      → ((words : List ℕ) → known ≡ Some words → words ≡ list)
+      → n ≡ op_answer o (slice_index list place)
+      → ShowsAfter (ShowsKnown k.layout known) o n
+      (ShowsKnown k.layout (still_known known (set list place (op_change o (slice_index list place)))))
+  known_after n None list wide same answered words shows = absurd shows
+  known_after n (Some old) list wide same answered words shows =
+      let here : ShowsWords k.layout list words = subst (λ (ws : List ℕ). ShowsWords k.layout ws words) (same old refl) shows in
+      (answered ∙ ap (op_answer o) (here (op_name o) named), shows_op k.layout list words stand apart wide here o named)
+
+  -- what a seat knows of the words is so
+  sure_words : (t : State (Unit {0}) Seated) (known : Option (List ℕ)) → IsSure t id known → (words : List ℕ) → known ≡ Some words
+      → words ≡ t.words
+  sure_words t None s words e = cc
+  sure_words t (Some old) s words e = sym (same_Some old words e) ∙ s.0
 
   pub step_allowed : Allows (Ruled k) slots id (v, []) place (op_change o)
       (λ n me. Makes k h v (op_answer o n) me.0 × (me.1 ≡ []))
@@ -153,15 +206,20 @@ module _ (k : Config) (h : Heard) (slots id : ℕ) (v : Seated) (x y : View) (re
         reached = f.reached;
         shown = shown_seat k t r id v x rest at is y r.state.words f;
         answers = ap (λ (w : Name → ℕ). op_answer o (w (op_name o))) (sym f.words);
-      } in (
-        seated (z ∷ rest),
+      } in
+      let list : List ℕ = set t.words place (op_change o (slice_index t.words place)) in (
+        record { actors = z ∷ rest; words = still_known v.words list },
         keeps,
         tt,
         ruled_after k t r id v x rest at is z (op_words r.state.words o) g
-            (set t.words place (op_change o (slice_index t.words place)))
+            list
             (subst (λ (m : ℕ). words_of k.layout ≤ m) (sym (length-set t.words place (op_change o (slice_index t.words place)))) r.wide)
             (shows_op k.layout t.words r.state.words stand apart r.wide r.words o named),
-        (subst (λ (m : ℕ). Makes k h v m (seated (z ∷ rest))) answered (makes_of n step), refl),
+        (
+          subst (λ (m : ℕ). Makes k h v m (record { actors = z ∷ rest; words = still_known v.words list })) answered
+              (makes_of n list step (known_after n v.words t.words r.wide (sure_words t v.words (r.sure id v at)) answered)),
+          refl,
+        ),
       )
 
 -- ---- in a caller's terms
@@ -199,7 +257,7 @@ module _ (made_for conf : Config) (h heard : Heard) (slots id : ℕ) (me : Me (U
       (λ n w. Makes made_for h me.0 (op_answer o n) w.0 × (w.1 ≡ []))) where_it_is
       (step_allowed made_for h slots id me.0 f.1 next.1 f.2 o (subst StoresStand layout stand) (subst StoresApart layout apart) good f.3 told_it op there))))
 
--- ---- what a board fits then
+-- ---- what a board fits then, and which words it shows
 
 module _ (made_for made_then : Config) (h : Heard) (old new : Seated) (o : Op) (n : ℕ) (now : Heard) (same : made_then ≡ made_for) (nothing : now ≡ Nothing)
     (made : Makes made_for h old n new) where
@@ -214,3 +272,11 @@ module _ (made_for made_then : Config) (h : Heard) (old new : Seated) (o : Op) (
       let m = made f.1 v f.2 o f.3 (subst (λ (c : Config). told h c f.1 ≡ Some v) f.0 f.4)
       (subst (λ (c : Config). view_op c v ≡ Some o) f.0 next) in
       ap all_but_first m.0 ∙ sym (ap all_but_first f.3)
+
+  pub shows_then : (l now : LayoutView) → l ≡ made_for.layout → now ≡ l → IsNext (FitsSeat made_for old h) o
+      → ShowsAfter (ShowsKnown l old.words) o n (ShowsKnown now new.words)
+  shows_then l now layout kept (k, v, f, next) =
+      let m = made f.1 v f.2 o f.3 (subst (λ (c : Config). told h c f.1 ≡ Some v) f.0 f.4)
+      (subst (λ (c : Config). view_op c v ≡ Some o) f.0 next) in
+      subst (λ (a : LayoutView). ShowsAfter (ShowsKnown l old.words) o n (ShowsKnown a new.words)) (sym kept)
+      (subst (λ (a : LayoutView). ShowsAfter (ShowsKnown a old.words) o n (ShowsKnown a new.words)) (sym layout) m.2)

@@ -1,5 +1,5 @@
 -- What follows for whoever holds boards, and for what is stored.
-use Rattle.std.specs.Prelude.{◌≡◌, ℕ, ◌+◌, List, [], Some}
+use Rattle.std.specs.Prelude.{◌≡◌, ℕ, ◌+◌, true, List, [], Some}
 use Rattle.sr_inv_facts.specs.Fitted.{IsFitted}
 use Rattle.sr_inv_facts.specs.Flying.{OnLeg}
 use Rattle.sr_inv_facts.specs.Invariant.{Invariant}
@@ -9,14 +9,15 @@ use Rattle.sr_inv_packets.specs.Numbers.{IsUnused}
 use Rattle.sr_machine.specs.Config.{Config}
 use Rattle.sr_machine.specs.Controller.{controller_op}
 use Rattle.sr_machine.specs.Core.{Core}
+use Rattle.sr_machine.specs.declared.controller_view.ControllerView.{ControllerView}
 use Rattle.sr_machine.specs.declared.name.Name.TheVariants.{Head, Member}
 use Rattle.sr_machine.specs.declared.op.Op.{Op}
 use Rattle.sr_machine.specs.declared.op.Op.TheVariants.{Stores}
 use Rattle.sr_machine.specs.declared.pipe_view.PipeView.{PipeView}
 use Rattle.sr_machine.specs.declared.view.View.{View}
-use Rattle.sr_machine.specs.declared.view.View.TheVariants.{OfPipe}
+use Rattle.sr_machine.specs.declared.view.View.TheVariants.{OfPipe, OfController}
 use Rattle.sr_words.specs.Besides.{all_but_first}
-use Rattle.sr_words.specs.Boarding.{number_of}
+use Rattle.sr_words.specs.Boarding.{is_controlled, number_of}
 use Rattle.sr_words.specs.Steps.{FitsSeat, IsShown, IsStepFrom}
 use Rattle.sr_words.specs.declared.heard.Heard.{Heard}
 use Rattle.sr_words.specs.declared.seated.Seated.{Seated}
@@ -50,3 +51,9 @@ abbrev pub BoardsKnowPipes : Type 0
 BoardsKnowPipes =
     (made_for : Config) (seat : Seated) (h : Heard) (k : Config) (v : PipeView) → FitsSeat made_for seat h k (OfPipe v)
     → all_but_first seat.actors ≡ [] → number_of seat.actors ≡ v.number + 1
+
+-- and one that fits a view of the controller is the controller's
+abbrev pub BoardsKnowController : Type 0
+BoardsKnowController =
+    (made_for : Config) (seat : Seated) (h : Heard) (k : Config) (c : ControllerView) → FitsSeat made_for seat h k (OfController c)
+    → all_but_first seat.actors ≡ [] → is_controlled seat.actors ≡ true

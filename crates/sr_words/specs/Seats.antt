@@ -1,13 +1,19 @@
 -- What the seats of the table know, and how a state shows it.
-use Rattle.std.specs.Prelude.{◌≡◌, ℕ, ◌+◌, ◌==◌, Bool, true, false, List, [], ◌∷◌, ◌++◌, map, Some, if◌then◌else◌}
+use Rattle.std.specs.Prelude.{◌≡◌, ◌≢◌, ℕ, ◌+◌, ◌==◌, Bool, true, false, List, [], ◌∷◌, ◌++◌, map, Option, Some, None, if◌then◌else◌}
+use Rattle.atomic_table.specs.Table.{State}
+use Rattle.sr_base.specs.Layout.{LayoutView}
+use Rattle.sr_core.specs.PlainWords.{ShowsWords}
 use Rattle.sr_machine.specs.Config.{Config}
 use Rattle.sr_machine.specs.Core.{Core, view_at}
 use Rattle.sr_machine.specs.Opening.{opening_controller, opening_pipes}
 use Rattle.sr_machine.specs.declared.actor.Actor.{Actor}
 use Rattle.sr_machine.specs.declared.actor.Actor.TheVariants.{Pipe, Controller}
+use Rattle.sr_machine.specs.declared.name.Name.{Name}
 use Rattle.sr_machine.specs.declared.view.View.{View}
 use Rattle.sr_machine.specs.declared.view.View.TheVariants.{OfPipe, OfController}
 use Rattle.sr_words.specs.declared.seated.Seated.{Seated}
+use lib.ListN.{get_elem?}
+use mathlib.Core.Option.{some}
 
 -- whose view it is
 abbrev pub actor_of : View → Actor
@@ -35,8 +41,29 @@ abbrev pub claimed : Actor → List Seated → ℕ
 claimed a [] = 0
 claimed a (seat ∷ rest) = times_in a seat.actors + claimed a rest
 
+-- it knows nothing of the words
 abbrev pub seated : List View → Seated
-seated actors = record { actors = actors }
+seated actors = record { actors = actors; words = None }
+
+-- ---- the words that a seat knows
+
+-- they are those of the table, and no other seat has an actor
+abbrev pub IsSure : State (Unit {0}) Seated → ℕ → Option (List ℕ) → Type 0
+IsSure t id None = Unit {0}
+IsSure t id (Some list) =
+    (list ≡ t.words) × ((j : ℕ) (other : Seated) → j ≢ id → get_elem? t.views j ≡ some other → other.actors ≡ [])
+
+-- once the table's words are these: a seat that knew them knows them still
+abbrev pub still_known : Option (List ℕ) → List ℕ → Option (List ℕ)
+still_known None list = None
+still_known (Some old) list = Some list
+
+-- by their names
+abbrev pub ShowsKnown : LayoutView → Option (List ℕ) → (Name → ℕ) → Type 0
+ShowsKnown l None words = ⊥
+ShowsKnown l (Some list) words = ShowsWords l list words
+
+-- ---- two views of one seat
 
 -- a seat's second view is taken off
 abbrev pub without_second : List View → List View

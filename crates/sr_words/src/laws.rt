@@ -1,6 +1,6 @@
 //! What follows for whoever holds boards, and for what is stored.
 
-ghost use Rattle.sr_words.specs.Laws.{BoardsKnowPipes, HeadsAreUnchosen, ShownStatesMeet, StepsAreMadeIn};
+ghost use Rattle.sr_words.specs.Laws.{BoardsKnowController, BoardsKnowPipes, HeadsAreUnchosen, ShownStatesMeet, StepsAreMadeIn};
 
 /// A law: a state that shows what actors know, as at the close of a switch, meets the invariant of the machine, so its lines break no
 /// clause; and so does the state in which a board's step was made.
@@ -14,8 +14,9 @@ pub fn heads_are_stored_unchosen()
     ensures { HeadsAreUnchosen }
 {}
 
-/// A law: a board of one actor alone that fits a view of a pipe is of that pipe. With it boards that were taken apart are put together
-/// again.
+/// A law: a board of one actor alone that fits a view of a pipe is of that pipe, and one that fits a view of the controller is the
+/// controller's. With it boards that were taken apart are put together again.
 pub fn boards_know_their_pipes()
-    ensures { BoardsKnowPipes }
+    ensures pipes { BoardsKnowPipes }
+    ensures controller { BoardsKnowController }
 {}

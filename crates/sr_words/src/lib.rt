@@ -27,7 +27,7 @@ pub use laws::{
     boards_know_their_pipes, heads_are_stored_unchosen, shown_states_meet_the_invariant,
 };
 pub use resting::{Closed, Rested, Resting};
-pub use rule::{Knowing, Looking, Making, Second, Telling, Together, Words};
+pub use rule::{Knowing, Learning, Looking, Making, Second, Telling, Together, Words};
 pub use seated::Seated;
 pub use switch::{First, Switch};
 pub use word_board::WordBoard;

@@ -7,7 +7,7 @@ use sr_inv::every_state_meets_the_invariant;
 use sr_machine::Board;
 
 /// The controller's board once no pipe has a packet in hand: the pipes' seats are joined to the controller's, so that no pipe can step,
-/// and each note is 0.
+/// each note is 0, and nobody else changes a word. So it tells the words.
 #[derive(Drop)]
 pub struct Resting<'a> {
     pub(crate) board: WordBoard<'a>,
@@ -30,13 +30,14 @@ pub struct Closed {
 impl Board for Resting<'_> {
     ghost use Rattle.sr_words.specs.Besides.{beside_of};
     ghost use Rattle.sr_words.specs.Boarding.{AreAtRest, reports_in};
+    ghost use Rattle.sr_words.specs.Seats.{ShowsKnown};
     ghost use Rattle.sr_words.specs.Steps.{FitsSeat};
 
     ghost fits = { λ r. FitsSeat r.board.words.now.key r.board.seat.me.0 r.board.heard };
 
     ghost beside = { λ r. beside_of r.board.layout r.board.seat.table_id r.board.seat.me.0 };
 
-    ghost shows = { λ r words. ⊥ };
+    ghost shows = { λ r. ShowsKnown r.board.layout r.board.seat.me.0.words };
 
     ghost rests = { λ r. AreAtRest r.board.layout r.board.seat.me.0.actors };
 

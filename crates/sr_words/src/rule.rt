@@ -61,6 +61,17 @@ impl<T: Telling> Play<(), Seated> for Looking<T> {
     ghost then = { λ s me found new. Looks T.config T.heard me.0 new.0 × (new.1 ≡ me.1) };
 }
 
+/// A look by a seat of all actors: it comes to know the words.
+pub struct Learning<T> {
+    of: PhantomData<T>,
+}
+
+impl<T: Telling> Play<(), Seated> for Learning<T> {
+    ghost use Rattle.sr_words.specs.Steps.{Learns};
+
+    ghost then = { λ s me found new. Learns T.config T.heard me.0 new.0 × (new.1 ≡ me.1) };
+}
+
 /// The second view of a seat is a seat's of its own.
 pub struct Second;
 

@@ -6,4 +6,6 @@ use std::collections::LinkedList;
 pub struct Seated {
     /// The views.
     pub actors: LinkedList<View>,
+    /// The words, where they are known: then no other seat has an actor, so that no other thread changes them.
+    pub words: Option<LinkedList<u64>>,
 }

@@ -5,11 +5,13 @@ ghost use Rattle.sr_base.specs.WordName.{HasWord, words_of};
 ghost use Rattle.sr_machine.specs.Boards.{IsNext};
 ghost use Rattle.sr_machine.specs.Names.{name_for};
 ghost use Rattle.sr_machine.specs.declared.op.Op.TheVariants.{Adds, Loads, Ors, Stores, Swaps};
-ghost use Rattle.sr_words.specs.Steps.{FitsSeat, Looks, Makes};
+ghost use Rattle.sr_words.specs.Boarding.{AreAtRest};
+ghost use Rattle.sr_words.specs.Steps.{FitsSeat, Learns, Looks, Makes};
 
-use crate::{Heard, Looking, Making, Seated, Telling, Words};
+use crate::{Heard, Learning, Looking, Making, Seated, Telling, Words};
 use atomic_table::Seat;
 use sr_base::{Layout, WordName, words_stand_apart};
+use sr_inv::every_state_meets_the_invariant;
 
 // The word.
 pub(crate) fn load_told<T: Telling>(
@@ -153,4 +155,21 @@ pub(crate) fn look_told<T: Telling>(words: &Words, seat: &mut Seat<(), Seated>, 
 {
     heard.packet_ranges();
     words.load::<Looking<T>>(seat, 0);
+}
+
+// The seat's actors are all that there are, at rest: it comes to know the words.
+pub(crate) fn learn_told<T: Telling>(words: &Words, seat: &mut Seat<(), Seated>, heard: &Heard)
+    requires heard { heard.now ≡ T.heard }
+    requires config { words.now.key ≡ T.config }
+    requires wide { 0 < words.now.table_id.words }
+    requires table { seat.old.table_id ≡ words.now.table_id }
+    requires free { seat.old.me.1 ≡ [] }
+    requires all { AreAtRest words.now.key.layout seat.old.me.0.actors }
+    ensures table { seat.new.table_id ≡ seat.old.table_id }
+    ensures free { seat.new.me.1 ≡ [] }
+    ensures learned { Learns words.now.key heard.now seat.old.me.0 seat.new.me.0 }
+{
+    every_state_meets_the_invariant();
+    heard.packet_ranges();
+    words.load::<Learning<T>>(seat, 0);
 }

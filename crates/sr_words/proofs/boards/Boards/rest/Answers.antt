@@ -1,32 +1,21 @@
-use Rattle.std.proofs.Common.{◌++◌, map, vec_len, arith}
-use Rattle.sr_words.proofs.Joining.{all_joined, emptied, fits_joined, pipes_of, rest_of}
-use Rattle.sr_words.specs.Boarding.{held, views_of}
+use Rattle.std.proofs.Common.{◌∙◌, [], map, sym, ap}
+use Rattle.std.proofs.lemmas.List.{append-nil}
+use Rattle.sr_machine.specs.declared.view.View.TheVariants.{OfPipe}
+use Rattle.sr_words.proofs.Alone.{known_then}
+use Rattle.sr_words.proofs.Joining.{fits_joined}
+use Rattle.sr_words.specs.Besides.{all_but_first}
 use Rattle.sr_words.proofs.boards.Boards.rest.Goals as goal
 
-pub returns-clause-rests : goal.returns-clause-rests
-returns-clause-rests c =
-    let i = c.loop-pipes.invariant in
-    rest_of c.args.self.controller.layout c.args.self.controller.seat.me.0.actors c.loop-pipes.controller.seat.me.0.actors c.args.self.pipes.items
-    c.args.self.alone c.args.self.one_each
-    (all_joined c.loop-pipes.controller.seat.me.0.actors (c.args.self.controller.seat.me.0.actors ++ views_of (map held c.args.self.pipes.items))
-    c.loop-pipes.pipes.items
-    (let a = emptied (vec_len c.loop-pipes.pipes) c.is_empty.result c.is_empty.ensures (cc) in let b = c.loop-pipes.pipes.ok.0 in omega arith) i.0)
-    c.loop-pipes.controller.layout i.4 c.requires
-
-pub returns-clause-pipes : goal.returns-clause-pipes
-returns-clause-pipes c =
-    let i = c.loop-pipes.invariant in
-    pipes_of c.args.self.controller.layout c.args.self.controller.seat.me.0.actors c.loop-pipes.controller.seat.me.0.actors c.args.self.pipes.items
-    c.args.self.alone c.args.self.one_each
-    (all_joined c.loop-pipes.controller.seat.me.0.actors (c.args.self.controller.seat.me.0.actors ++ views_of (map held c.args.self.pipes.items))
-    c.loop-pipes.pipes.items
-    (let a = emptied (vec_len c.loop-pipes.pipes) c.is_empty.result c.is_empty.ensures (cc) in let b = c.loop-pipes.pipes.ok.0 in omega arith) i.0)
-
 pub returns-clause-fits : goal.returns-clause-fits
-returns-clause-fits c =
-    let i = c.loop-pipes.invariant in
-    fits_joined c.args.self.controller.words.now.key c.loop-pipes.controller.words.now.key c.args.self.controller.seat.me.0 c.loop-pipes.controller.seat.me.0
-    c.args.self.controller.heard c.loop-pipes.controller.heard (views_of (map held c.args.self.pipes.items)) i.3 i.2
-    (all_joined c.loop-pipes.controller.seat.me.0.actors (c.args.self.controller.seat.me.0.actors ++ views_of (map held c.args.self.pipes.items))
-    c.loop-pipes.pipes.items
-    (let a = emptied (vec_len c.loop-pipes.pipes) c.is_empty.result c.is_empty.ensures (cc) in let b = c.loop-pipes.pipes.ok.0 in omega arith) i.0)
+returns-clause-fits c k y f =
+    let board = c.join-board.result in
+    fits_joined board.words.now.key c.learn.new.board.words.now.key board.seat.me.0 c.learn.new.board.seat.me.0 board.heard c.learn.new.board.heard []
+    c.learn.ensures.key c.learn.ensures.heard (c.learn.ensures.learned.0 ∙ sym (append-nil board.seat.me.0.actors)) k y
+    (c.join-board.ensures.fits k y f)
+
+pub returns-clause-known : goal.returns-clause-known
+returns-clause-known c views idle k y f =
+    let board = c.join-board.result in
+    known_then board.words.now.key board.heard board.seat.me.0 c.learn.new.board.seat.me.0 (map OfPipe views) k y c.learn.ensures.learned
+    (c.join-board.ensures.fits k y f)
+    (λ x rest is. sym (ap all_but_first is) ∙ c.join-board.ensures.pipes views idle)

@@ -4,7 +4,7 @@ use Rattle.sr_machine.proofs.Words.{named_there}
 use Rattle.sr_machine.specs.Names.{name_for}
 use Rattle.sr_machine.specs.declared.op.Op.TheVariants.{Adds}
 use Rattle.sr_words.proofs.AtRest.{stays}
-use Rattle.sr_words.proofs.Stepping.{fits_after, joined_after}
+use Rattle.sr_words.proofs.Stepping.{fits_after, joined_after, shows_then}
 use Rattle.sr_words.proofs.resting.RestingBoard.add.Goals as goal
 
 pub returns-clause-fits : goal.returns-clause-fits
@@ -21,3 +21,9 @@ pub returns-clause-rest : goal.returns-clause-rest
 returns-clause-rest c =
     stays c.args.self.now.board.words.now.key c.every_state_meets_the_invariant.ensures c.args.self.now.board.layout c.args.self.now.board.placed c.args.self.now.board.heard c.args.self.now.board.seat.me.0 c.adds.new.self.seat.me.0 (Adds (name_for c.args.at) c.args.by)
     c.adds.result c.adds.ensures.made (subst (HasWord c.args.self.now.board.layout) (sym (named_there c.args.at)) c.requires.named) c.requires.next c.adds.new.self.layout c.adds.ensures.layout refl
+
+pub returns-clause-words : goal.returns-clause-words
+returns-clause-words c =
+    shows_then c.args.self.now.board.words.now.key c.adds.new.self.words.now.key c.args.self.now.board.heard c.args.self.now.board.seat.me.0 c.adds.new.self.seat.me.0
+    (Adds (name_for c.args.at) c.args.by) c.adds.result c.adds.new.self.heard c.adds.ensures.key c.adds.ensures.heard c.adds.ensures.made
+    c.args.self.now.board.layout c.adds.new.self.layout c.args.self.now.board.placed c.adds.ensures.layout c.requires.next

@@ -1,6 +1,6 @@
 use Rattle.std.proofs.Common.{◌≡◌, ◌++◌, length, map, replicate}
 use Rattle.sr_words.specs.Boarding.{held, views_of}
-use Rattle.sr_words.proofs.boards.Boards.rest.Given as goal
+use Rattle.sr_words.proofs.boards.Boards.join.Given as goal
 
 abbrev pub invariant-loop-pipes : goal.invariant-loop-pipes
 invariant-loop-pipes l =
