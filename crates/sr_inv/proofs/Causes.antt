@@ -32,6 +32,9 @@ use Rattle.sr_law.specs.Setup.{SetupView}
 use Rattle.sr_law.specs.declared.line.Line.{Line}
 use Rattle.sr_machine.specs.Core.{Core, opening, printed}
 use Rattle.sr_machine.specs.Keeping.{begun_core}
+use Rattle.sr_inv_facts.specs.Putting.{put_core}
+use Rattle.sr_machine.specs.declared.put.Put.{Put}
+use Rattle.sr_inv_facts.specs.Invariant.{Invariant}
 
 -- each line meets all clauses where it meets each
 pub record EachClause (setup : SetupView) (endings : List EndingPacket) (lines : List Line) : Type 0 where
@@ -101,6 +104,18 @@ causes_begun s i =
       number = begun_keeps NumbersFree number_part number_keep s i;
       cause = begun_keeps CausesTold told_part told_keep s i;
       retire = begun_keeps RetirementsKept retirements_part retirements_keep s i;
+    })
+
+pub causes_put : (s : Core) (p : Put) → Invariant s → InCauses (put_core s p)
+causes_put s p i =
+    joined (put_core s p) (verdicts_part s i) tt (reports_part s i) (record {
+      order = order_part s i;
+      server = servers_part s i;
+      same = same_part s i;
+      newer = newer_part s i;
+      number = number_part s i;
+      cause = told_part s i;
+      retire = retirements_part s i;
     })
 
 pub causes_event : EventsKeep InCauses

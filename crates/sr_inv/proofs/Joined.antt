@@ -1,42 +1,46 @@
 -- Every event keeps the whole invariant, and so every run does.
-use Rattle.std.proofs.Common.{◌≡◌, List, [], ◌∷◌, Some, None, Option, option_and_then, refl, subst}
+use Rattle.std.proofs.Common.{◌≡◌, false, List, [], ◌∷◌, Some, None, Option, option_and_then, refl, subst}
 use Rattle.std.proofs.lemmas.Option.{same_Some}
 use Rattle.std.specs.List.{AllByRecursion}
-use Rattle.sr_inv.proofs.Causes.{causes_begun, causes_event, causes_open}
+use Rattle.sr_inv.proofs.Causes.{causes_begun, causes_event, causes_open, causes_put}
 use Rattle.sr_inv_facts.proofs.Keeping.{begun_keeps, events_keep}
 use Rattle.sr_inv_facts.specs.Fitted.{IsFitted, IsPacket}
 use Rattle.sr_inv_facts.specs.InFilter.{InFilter}
 use Rattle.sr_inv_facts.specs.InFlight.{InFlight}
 use Rattle.sr_inv_facts.specs.InHeld.{InHeld}
-use Rattle.sr_inv_facts.specs.InJobs.{InJobs}
+use Rattle.sr_inv_facts.specs.InJobs.{InJobs, PutHolds}
+use Rattle.sr_inv_facts.specs.InMatching.{IsClearPut}
 use Rattle.sr_inv_facts.specs.InShape.{InShape}
 use Rattle.sr_inv_facts.specs.InTicks.{InTicks}
 use Rattle.sr_inv_facts.specs.InUpdate.{ChangesKept, PhasesHold, VersionsKept}
 use Rattle.sr_inv_facts.specs.InWords.{InWords}
 use Rattle.sr_inv_facts.specs.Invariant.{Invariant}
 use Rattle.sr_inv_facts.specs.Laws.{BegunKeeps, EventsKeep, OpensWith}
-use Rattle.sr_inv_filter.proofs.FilterKept.{filter_keep, filter_open, filter_part}
-use Rattle.sr_inv_flight.proofs.FlightsKept.{flights_keep, flights_open, flights_part}
+use Rattle.sr_inv_filter.proofs.FilterKept.{filter_keep, filter_open, filter_part, filter_put}
+use Rattle.sr_inv_flight.proofs.FlightsKept.{flights_keep, flights_open, flights_part, flights_put}
 use Rattle.sr_inv_held.proofs.HeldsKept.{helds_keep, helds_open}
-use Rattle.sr_inv_jobs.proofs.JobsKept.{jobs_keep}
+use Rattle.sr_inv_jobs.proofs.JobsKept.{jobs_keep, jobs_put}
 use Rattle.sr_inv_jobs.proofs.JobsOpen.{jobs_open}
-use Rattle.sr_inv_matching.proofs.MatchingKept.{matching_begun, matching_events, matching_opens}
-use Rattle.sr_inv_openings.proofs.OpeningsKept.{openings_begun, openings_event, openings_open}
-use Rattle.sr_inv_quiet.proofs.SweepsKept.{sweeps_begun, sweeps_event, sweeps_open}
-use Rattle.sr_inv_shape.proofs.ShapesKept.{shapes_keep}
+use Rattle.sr_inv_matching.proofs.MatchingKept.{matching_begun, matching_events, matching_opens, matching_put}
+use Rattle.sr_inv_openings.proofs.OpeningsKept.{openings_begun, openings_event, openings_open, openings_put}
+use Rattle.sr_inv_quiet.proofs.SweepsKept.{sweeps_begun, sweeps_event, sweeps_open, sweeps_put}
+use Rattle.sr_inv_shape.proofs.ShapesKept.{shapes_keep, shapes_put}
 use Rattle.sr_inv_shape.proofs.ShapesOpen.{shapes_open}
 use Rattle.sr_inv_track.proofs.TrackKept.{track_begun, track_events, track_opens}
-use Rattle.sr_inv_update.proofs.ChangeEvents.{changes_keep, changes_open}
-use Rattle.sr_inv_update.proofs.PhasesKept.{phases_keep, phases_open}
-use Rattle.sr_inv_update.proofs.VersionEvents.{versions_keep, versions_open}
-use Rattle.sr_inv_words.proofs.TicksKept.{ticks_keep}
+use Rattle.sr_inv_update.proofs.ChangeEvents.{changes_keep, changes_open, changes_put}
+use Rattle.sr_inv_update.proofs.PhasesKept.{phases_keep, phases_open, phases_put}
+use Rattle.sr_inv_update.proofs.VersionEvents.{versions_keep, versions_open, versions_put}
+use Rattle.sr_inv_words.proofs.TicksKept.{ticks_keep, ticks_put}
 use Rattle.sr_inv_words.proofs.TicksOpen.{ticks_open}
-use Rattle.sr_inv_words.proofs.WordsKept.{words_keep}
+use Rattle.sr_inv_words.proofs.WordsKept.{words_keep, words_put}
 use Rattle.sr_inv_words.proofs.WordsOpen.{words_open}
 use Rattle.sr_machine.specs.Config.{Config}
 use Rattle.sr_machine.specs.Core.{Core, opening, run, step_event}
 use Rattle.sr_machine.specs.Keeping.{Brings}
 use Rattle.sr_machine.specs.declared.event.Event.{Event}
+use Rattle.sr_machine.specs.declared.job.Job.TheVariants.{Free}
+use Rattle.sr_inv_facts.specs.Putting.{put_core}
+use Rattle.sr_machine.specs.declared.put.Put.{Put}
 
 filter_begun : BegunKeeps InFilter
 filter_begun = begun_keeps InFilter filter_part filter_keep
@@ -101,6 +105,33 @@ invariant_event s t e h a q = record {
   held = events_keep InHeld (λ s i. i.held) helds_keep s t e h a q;
   sweeps = sweeps_event s t e h a q;
   causes = causes_event s t e h a q;
+}
+
+-- ---- a put, whoever chose its place
+
+pub put_meets : (s : Core) (p : Put) → s.controller.job ≡ Free → s.controller.refusing ≡ false
+    → PutHolds s.config.layout.shape s.controller.book.entries s.controller.held p
+    → IsClearPut s.config.layout.shape s.controller.book.entries p
+    → Invariant s
+    → Invariant (put_core s p)
+put_meets s p free calm put clear i = record {
+  shape = shapes_put s p free i.shape;
+  words = words_put s p free i.words;
+  ticks = ticks_put s p free i.ticks;
+  update = record {
+    update = phases_put s p free i.update.update;
+    versions = versions_put s p free i;
+    changes = changes_put s p free calm i;
+  };
+  jobs = jobs_put s p free put i;
+  flight = flights_put s p free i;
+  matching = matching_put s p free clear i;
+  filter = filter_put s p free i;
+  openings = openings_put s p free i;
+  track = record { track = record { track = i.track.track.track } };
+  held = record { held = i.held.held };
+  sweeps = sweeps_put s p free i;
+  causes = causes_put s p i;
 }
 
 -- ---- runs

@@ -16,4 +16,5 @@ pub mod InWords
 pub mod Invariant
 pub mod Laws
 pub mod OnTrack
+pub mod Putting
 pub mod Readings

@@ -1,13 +1,13 @@
 -- The parts of what is said of the transit filter are all of it.
-use Rattle.std.proofs.Common.{ℕ, slice_set, Some, None, Option}
+use Rattle.std.proofs.Common.{ℕ, slice_set, Some, None, Option, ◌≡◌}
 use Rattle.sr_inv_facts.specs.Fitted.{IsPacket}
 use Rattle.sr_inv_facts.specs.InFilter.{DrainedKept, InFilter, LearnersKept, MarkersKept, PendingKept, ReportsKept}
 use Rattle.sr_inv_facts.specs.Invariant.{Invariant}
 use Rattle.sr_inv_facts.specs.Laws.{OpensWith}
 use Rattle.sr_inv_filter.proofs.DrainedReports.{drained_keep, drained_open, drained_part}
 use Rattle.sr_inv_filter.proofs.Learners.{learners_keep, learners_open, learners_part}
-use Rattle.sr_inv_filter.proofs.PendingKeys.{pending_keep, pending_open, pending_part}
-use Rattle.sr_inv_filter.proofs.RingReports.{reports_keep, reports_open, reports_part}
+use Rattle.sr_inv_filter.proofs.PendingKeys.{pending_keep, pending_open, pending_part, pending_put}
+use Rattle.sr_inv_filter.proofs.RingReports.{reports_keep, reports_open, reports_part, reports_put}
 use Rattle.sr_inv_filter.proofs.SetPlaces.{markers_keep, markers_open, markers_part}
 use Rattle.sr_machine.specs.Core.{Core, opening}
 use Rattle.sr_machine.specs.Jobs.{job_op}
@@ -18,6 +18,9 @@ use Rattle.sr_machine.specs.declared.op.Op.{Op}
 use Rattle.sr_machine.specs.declared.pipe_view.PipeView.{PipeView}
 use Rattle.sr_machine.specs.declared.stage.Stage.{Stage}
 use Rattle.sr_machine.specs.declared.stage.Stage.TheVariants.{Enter}
+use Rattle.sr_inv_facts.specs.Putting.{put_core}
+use Rattle.sr_machine.specs.declared.put.Put.{Put}
+use Rattle.sr_machine.specs.declared.job.Job.TheVariants.{Free}
 
 whole : (s : Core) → PendingKept s → ReportsKept s → LearnersKept s → DrainedKept s → MarkersKept s → InFilter s
 whole s a b c d e = record { filter = record { pending = a; reports = b; learners = c; drained = d; markers = e } }
@@ -53,6 +56,9 @@ filter_keep = record {
   clocks = λ s ms q i h. record { filter = h.filter };
   refusals = λ s q i h. record { filter = h.filter };
 }
+
+pub filter_put : (s : Core) (p : Put) → s.controller.job ≡ Free → Invariant s → InFilter (put_core s p)
+filter_put s p free i = whole (put_core s p) (pending_put s p free i) (reports_put s p free i) (learners_part s i) tt (markers_part s i)
 
 pub filter_part : (s : Core) → Invariant s → InFilter s
 filter_part s i = i.filter

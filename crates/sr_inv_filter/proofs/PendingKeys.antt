@@ -58,6 +58,7 @@ use Rattle.sr_shadow.specs.Entry.{closed, fresh, is_of, is_pending, left_other, 
 use Rattle.sr_shadow.specs.declared.book.Book.{Book}
 use Rattle.sr_shadow.specs.declared.entry.Entry.{Entry}
 use Rattle.sr_update.specs.Waits.{recording_waits_for, transit_waits_for}
+use Rattle.sr_inv_facts.specs.Putting.{put_core}
 use Rattle.sr_machine.specs.Begins as begin
 use Rattle.sr_machine.specs.Goes as go
 use Rattle.sr_machine.specs.declared.draw.Draw.TheVariants as draw
@@ -466,6 +467,10 @@ module _ (s : Core) (i : Invariant s) where
           cleared_kept bits (Some (update_to s.controller g number)) (job.Store (store.Member (update_to s.controller g number) 0)) 0
           (λ u is. i.update.update.others u.vip (subst (λ o. IsAside o u.vip) (sym none) tt))
       by q t g = entry_settles job.Free t.job (λ e. refl) es (pending_at job.Free q)
+
+pub pending_put : (s : Core) (p : Put) → s.controller.job ≡ job.Free → Invariant s → PendingKept (put_core s p)
+pending_put s p free i =
+    entry_settles s i job.Free (job.Draw (draw.Reserved p)) (λ e. refl) s.controller.book.entries (pending_at s i job.Free free)
 
 -- ---- every event
 

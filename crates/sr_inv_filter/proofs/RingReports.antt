@@ -54,9 +54,12 @@ use Rattle.sr_machine.specs.declared.pipe_view.PipeView.{PipeView}
 use Rattle.sr_machine.specs.declared.pool_update.PoolUpdate.{PoolUpdate}
 use Rattle.sr_machine.specs.declared.stage.Stage.{Stage}
 use Rattle.sr_machine.specs.declared.stage.Stage.TheVariants.{Fly}
+use Rattle.sr_inv_facts.specs.Putting.{put_core}
+use Rattle.sr_machine.specs.declared.put.Put.{Put}
 use Rattle.sr_law.specs.declared.verdict.Verdict.TheVariants as verdict
 use Rattle.sr_machine.specs.Begins as begin
 use Rattle.sr_machine.specs.Goes as go
+use Rattle.sr_machine.specs.declared.draw.Draw.TheVariants as draw
 use Rattle.sr_machine.specs.declared.job.Job.TheVariants as job
 use Rattle.sr_machine.specs.declared.leg.Last.TheVariants as last
 use Rattle.sr_machine.specs.declared.name.Name.TheVariants as name
@@ -478,6 +481,16 @@ module _ (s : Core) (i : Invariant s) where
           if_learn r.kind (ReportMarked l (bit_words s.words) update vips s.controller.job r.key r.version) (ReportMarked l (bit_words s.words) update vips t.job r.key r.version)
           (λ h. settled_report job.Free t.job (λ e. refl) (λ e. refl) r.key r.version (subst (λ z. ReportMarked l (bit_words s.words) update vips z r.key r.version) q h))
           (i.filter.filter.reports n d r read)
+
+pub reports_put : (s : Core) (p : Put) → s.controller.job ≡ job.Free → Invariant s → ReportsKept (put_core s p)
+reports_put s p free i n d r read =
+    let l = s.config.layout in
+    let update = s.controller.update in
+    let vips = s.controller.vips in
+    let m : Job = job.Draw (draw.Reserved p) in
+    if_learn r.kind (ReportMarked l (bit_words s.words) update vips s.controller.job r.key r.version) (ReportMarked l (bit_words s.words) update vips m r.key r.version)
+    (λ h. settled_report s i job.Free m (λ e. refl) (λ e. refl) r.key r.version (subst (λ z. ReportMarked l (bit_words s.words) update vips z r.key r.version) free h))
+    (i.filter.filter.reports n d r read)
 
 -- ---- every event
 

@@ -12,9 +12,9 @@ use Rattle.sr_inv_flight.proofs.Choosing.{choices_keep, choices_open, choices_pa
 use Rattle.sr_inv_flight.proofs.FilterPlaces.{filters_keep, filters_open, filters_part}
 use Rattle.sr_inv_flight.proofs.KnownPhases.{known_keep, known_open, known_part}
 use Rattle.sr_inv_flight.proofs.LoadedServers.{servers_keep, servers_open, servers_part}
-use Rattle.sr_inv_flight.proofs.LoadedWords.{words_keep, words_open, words_part}
+use Rattle.sr_inv_flight.proofs.LoadedWords.{words_keep, words_open, words_part, words_put}
 use Rattle.sr_inv_flight.proofs.OverKeys.{over_keep, over_open, over_part}
-use Rattle.sr_inv_flight.proofs.ReleasesPass.{releases_keep, releases_open, releases_part}
+use Rattle.sr_inv_flight.proofs.ReleasesPass.{releases_keep, releases_open, releases_part, releases_put}
 use Rattle.sr_inv_flight.proofs.UsedNumbers.{used_keep, used_open, used_part}
 use Rattle.sr_machine.specs.Core.{Core, opening, printed}
 use Rattle.sr_machine.specs.Deciding.{ring_count}
@@ -26,6 +26,9 @@ use Rattle.sr_machine.specs.declared.pipe_view.PipeView.{PipeView}
 use Rattle.sr_machine.specs.declared.stage.Stage.{Stage}
 use Rattle.sr_machine.specs.declared.stage.Stage.TheVariants.{Enter, Fly}
 use Rattle.sr_machine.specs.declared.op.Op.{Op}
+use Rattle.sr_inv_facts.specs.Putting.{put_core}
+use Rattle.sr_machine.specs.declared.put.Put.{Put}
+use Rattle.sr_machine.specs.declared.job.Job.TheVariants.{Free}
 
 record Parts (s : Core) : Type 0 where
   words : WordsLoaded s
@@ -126,6 +129,19 @@ flights_keep = record {
   clocks = λ s ms q i h. record { flights = h.flights; legs = h.legs; over = h.over };
   refusals = λ s q i h. record { flights = h.flights; legs = h.legs; over = h.over };
 }
+
+pub flights_put : (s : Core) (p : Put) → s.controller.job ≡ Free → Invariant s → InFlight (put_core s p)
+flights_put s p free i = whole (put_core s p) (record {
+  words = words_put s p free i;
+  known = known_part s i;
+  choices = choices_part s i;
+  filters = filters_part s i;
+  servers = servers_part s i;
+  cells = cells_part s i;
+  used = used_part s i;
+  releases = releases_put s p (releases_part s i);
+  over = tt;
+})
 
 pub flights_part : (s : Core) → Invariant s → InFlight s
 flights_part s i = i.flight

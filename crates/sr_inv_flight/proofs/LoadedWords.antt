@@ -49,6 +49,8 @@ use Rattle.sr_machine.specs.declared.pool_update.PoolUpdate.{PoolUpdate}
 use Rattle.sr_machine.specs.declared.stage.Stage.{Stage}
 use Rattle.sr_machine.specs.declared.stage.Stage.TheVariants.{Idle, Enter, Note, Vip, Fly, Leave}
 use Rattle.sr_machine.specs.declared.wait.Wait.{Wait}
+use Rattle.sr_inv_facts.specs.Putting.{put_core}
+use Rattle.sr_machine.specs.declared.put.Put.{Put}
 use Rattle.sr_machine.specs.Goes as go
 use Rattle.sr_machine.specs.declared.stage.Stage.TheVariants as stage
 use Rattle.sr_machine.specs.declared.draw.Draw.TheVariants as draw
@@ -302,6 +304,11 @@ module _ (s : Core) (i : Invariant s) where
 begins_kept : (s : Core) → Invariant s → WordsLoaded s → WordsLoaded (begun_core s)
 begins_kept s i h =
     begun_by s.config s.controller (λ c. EachPipe (λ p v. OnFlight v.stage (HasWord c.vips c.job p)) s.pipes) h (λ q t g. each_word s i job.Free t.job s.controller.vips q (λ p v f leg r d a. stays s.controller.vips job.Free t.job tt p f a))
+
+pub words_put : (s : Core) (p : Put) → s.controller.job ≡ job.Free → Invariant s → WordsLoaded (put_core s p)
+words_put s p free i =
+    each_word s i job.Free (job.Draw (draw.Reserved p)) s.controller.vips free
+    (λ n v f leg r d a. stays s.controller.vips job.Free (job.Draw (draw.Reserved p)) tt n f a)
 
 pub words_keep : Keeps IsPacket Invariant WordsLoaded
 words_keep = record {

@@ -51,6 +51,7 @@ use Rattle.sr_machine.specs.declared.stage.Stage.TheVariants.{Idle, Enter, Note,
 use Rattle.sr_machine.specs.declared.wait.Wait.{Wait}
 use Rattle.sr_machine.specs.declared.why.Why.{Why}
 use Rattle.sr_shadow.specs.declared.entry.Entry.{Entry}
+use Rattle.sr_inv_facts.specs.Putting.{put_core}
 use Rattle.sr_law.specs.declared.verdict.Verdict.TheVariants as verdict
 use Rattle.sr_machine.specs.Begins as begin
 use Rattle.sr_machine.specs.Goes as go
@@ -257,6 +258,10 @@ begins_kept s i h =
     (λ q t g p v r.
     leg_then v.stage (Unreleased s.controller.job p) (Unreleased t.job p)
     (λ f leg e k. starts_unreleased s.config s.controller (λ vip version. f.packet.key.vip ≡ vip → OnNumber leg (λ n. n ≢ version)) p f.entered t g) (h p v r))
+
+pub releases_put : (s : Core) (p : Put) → ReleasesPassed s → ReleasesPassed (put_core s p)
+releases_put s p h n v r =
+    leg_then v.stage (Unreleased s.controller.job n) (Unreleased (job.Draw (draw.Reserved p)) n) (λ f leg e k. tt) (h n v r)
 
 job_kept : (s : Core) (j : Job) (o : Option Op) → s.controller.job ≡ j → Invariant s → ReleasesPassed s
     → OnOp o (λ o. IsAnswer s j (op_answer o (s.words (op_name o))))

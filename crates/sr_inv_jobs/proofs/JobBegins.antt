@@ -81,7 +81,7 @@ group_held shape es key what e =
 -- ---- the beginnings
 
 module _ (k : Config) (c : ControllerView) (lines : List Line) (d : DistinctKeys c.book.entries) (h : JobsHold k (seen c) job.Free lines) where
-  begins_as : (m : Job) → ((key : KeyView) → leaving m key ≡ None) → JobHolds k (seen c) lines m → ((q : Place) → job_taking m q ≡ None)
+  pub begins_as : (m : Job) → ((key : KeyView) → leaving m key ≡ None) → JobHolds k (seen c) lines m → ((q : Place) → job_taking m q ≡ None)
       → JobsHold k (seen c) m lines
   begins_as m leave stands none = goes_on k (seen c) lines job.Free m h leave stands none
 

@@ -12,10 +12,10 @@ use Rattle.sr_inv_facts.proofs.Lists.{all_then}
 use Rattle.sr_inv_facts.proofs.Printing.{job_tells, pipe_silent, prints, stage_prints}
 use Rattle.sr_inv_facts.proofs.Taking.{takes}
 use Rattle.sr_inv_facts.specs.Fitted.{IsPacket}
-use Rattle.sr_inv_facts.specs.InJobs.{InJobs, JobHolds, JobsHold, Seen, book_taking, job_taking, leaving, seen}
+use Rattle.sr_inv_facts.specs.InJobs.{InJobs, JobHolds, JobsHold, Seen, book_taking, job_taking, leaving, seen, PutHolds}
 use Rattle.sr_inv_facts.specs.InShape.{BookFits, JobFits}
 use Rattle.sr_inv_facts.specs.Invariant.{Invariant}
-use Rattle.sr_inv_jobs.proofs.JobBegins.{start_holds}
+use Rattle.sr_inv_jobs.proofs.JobBegins.{start_holds, begins_as}
 use Rattle.sr_inv_jobs.proofs.JobGoes.{as_placed, goes_on, moved, reserved_tells, placed_tells, down_more}
 use Rattle.sr_inv_jobs.proofs.JobSteps.{After, Before, comes, cleared, retired, phase_stored, judged_live, judged_withdrawn, emptied, passed_on, last_down}
 use Rattle.sr_inv_jobs.proofs.JobTakes.{drain_on, look_on, waited_on}
@@ -45,6 +45,8 @@ use Rattle.sr_shadow.proofs.Holding.{found_own}
 use Rattle.sr_shadow.specs.Book.{DistinctKeys, entry_for, holder_of, placed_from, with_changed}
 use Rattle.sr_shadow.specs.Entry.{swept, is_of, is_placed}
 use Rattle.sr_shadow.specs.declared.entry.Entry.{Entry}
+use Rattle.sr_inv_facts.specs.Putting.{put_core}
+use Rattle.sr_machine.specs.declared.put.Put.{Put}
 use Rattle.sr_machine.specs.Goes as go
 use Rattle.sr_machine.specs.declared.draw.Draw.TheVariants as draw
 use Rattle.sr_machine.specs.declared.store.Store.TheVariants as store
@@ -227,6 +229,17 @@ begins_kept s i f =
       holds =
           start_holds s.config s.controller (printed s) i.shape.book.distinct (subst (λ m. JobsHold s.config (seen s.controller) m (printed s)) q f.holds) t g;
     })
+
+-- a put begins whose place is one of its key and held by nobody, and whose aim stands in the book
+pub jobs_put : (s : Core) (p : Put) → s.controller.job ≡ job.Free
+    → PutHolds s.config.layout.shape s.controller.book.entries s.controller.held p → Invariant s
+    → InJobs (put_core s p)
+jobs_put s p free put i = record {
+  holds =
+      begins_as s.config s.controller (printed s) i.shape.book.distinct
+      (subst (λ m. JobsHold s.config (seen s.controller) m (printed s)) free i.jobs.holds) (job.Draw (draw.Reserved p)) (λ z. refl) (put, tt)
+      (λ q. refl);
+}
 
 pub jobs_keep : Keeps IsPacket Invariant InJobs
 jobs_keep = record {

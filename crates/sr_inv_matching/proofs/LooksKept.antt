@@ -61,6 +61,7 @@ use Rattle.sr_machine.specs.declared.wait.Wait.{Wait}
 use Rattle.sr_shadow.specs.Book.{entry_for}
 use Rattle.sr_shadow.specs.Entry.{is_of, left_other, swept}
 use Rattle.sr_shadow.specs.declared.entry.Entry.{Entry}
+use Rattle.sr_inv_facts.specs.Putting.{put_core}
 use Rattle.sr_machine.specs.Goes as go
 use Rattle.sr_law.specs.declared.verdict.Verdict.TheVariants as verdict
 use Rattle.sr_law.specs.declared.verdict.HeldBy.TheVariants as by
@@ -375,6 +376,10 @@ module _ (s : Core) (i : Invariant s) where
   begins_kept =
       begun_by s.config s.controller (λ c. EachPipe (LooksAt c.job book) s.pipes) i.matching.matching.looks (λ q t g.
       staying book job.Free t.job q (stays_self book) (λ p v f leg r d a. absurd a))
+
+pub found_put : (s : Core) (p : Put) → s.controller.job ≡ job.Free → Invariant s → PlacedAreFound (put_core s p)
+found_put s p free i =
+    staying s i s.controller.book.entries job.Free (job.Draw (draw.Reserved p)) free (stays_self s.controller.book.entries) (λ n v f leg r d a. absurd a)
 
 pub found_keep : Keeps IsPacket Invariant PlacedAreFound
 found_keep = record {

@@ -44,6 +44,7 @@ use Rattle.sr_machine.specs.declared.wait.Wait.{Wait}
 use Rattle.sr_inv_matching.proofs.Saying.{empty_silent, live_speaks, reserved_is, reserved_speaks}
 use Rattle.sr_inv_matching.proofs.Stepping.{entered_drawn, look_answers, noted, stage_entries}
 use Rattle.sr_inv_matching.proofs.Unmatching.{opener_then, stage_unmet}
+use Rattle.sr_inv_facts.specs.Putting.{put_core}
 use Rattle.sr_machine.specs.Goes.{Goes as go}
 use Rattle.sr_law.specs.declared.verdict.HeldBy.TheVariants as by
 use Rattle.sr_law.specs.declared.verdict.Verdict.TheVariants as verdict
@@ -258,6 +259,9 @@ module _ (s : Core) (i : Invariant s) where
   begins_kept =
       begun_by s.config s.controller (λ c. EachPipe (Met l w c.job) s.pipes) i.matching.matching.unmatched (λ q t g.
       same_words job.Free t.job q (λ p v f leg place r d a. absurd a))
+
+pub unmatched_put : (s : Core) (p : Put) → s.controller.job ≡ job.Free → Invariant s → UnmatchedLook (put_core s p)
+unmatched_put s p free i = same_words s i job.Free (job.Draw (draw.Reserved p)) free (λ n v f leg place r d a. absurd a)
 
 pub unmatched_keep : Keeps IsPacket Invariant UnmatchedLook
 unmatched_keep = record {

@@ -524,7 +524,7 @@ module _ (s : Core) (i : Invariant s) where
 
   -- ---- what it begins
 
-  entry_begins : s.controller.job ≡ job.Free → (m : Job) → AllByRecursion (OpenedFor m) es
+  pub entry_begins : s.controller.job ≡ job.Free → (m : Job) → AllByRecursion (OpenedFor m) es
   entry_begins q m =
       all_then Opened (OpenedFor m) (λ e h. entry_turns k c.vips c.vips c.named c.named c.down c.down c.job m s.pipes s.pipes e e (alike_self e) (λ z. z) (none_awaited job.Free m e c.vips c.named c.down (λ z. z) q) refl (opening (printed s) e.key) h)
       es i.openings.openings.entry

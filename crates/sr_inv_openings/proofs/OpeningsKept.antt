@@ -3,7 +3,7 @@ use Rattle.sr_inv_facts.proofs.Keeping.{begun_keeps, events_keep}
 use Rattle.sr_inv_facts.specs.InOpenings.{InOpenings}
 use Rattle.sr_inv_facts.specs.Laws.{BegunKeeps, EventsKeep, OpensWith}
 use Rattle.sr_inv_openings.proofs.DeadKept.{dead_keep, dead_open, dead_part}
-use Rattle.sr_inv_openings.proofs.EntryOpenings.{entry_keep, entry_open, entry_part}
+use Rattle.sr_inv_openings.proofs.EntryOpenings.{entry_keep, entry_open, entry_part, entry_begins}
 use Rattle.sr_inv_openings.proofs.LearnedKept.{learned_keep, learned_open, learned_part}
 use Rattle.sr_inv_openings.proofs.Parts.{DeadAreSilent, EntriesOpened, LearnedAre, PushedAre, ReportedAre}
 use Rattle.sr_inv_openings.proofs.PushedKept.{pushed_keep, pushed_open, pushed_part}
@@ -11,6 +11,12 @@ use Rattle.sr_inv_openings.proofs.ReportedKept.{reported_keep, reported_open, re
 use Rattle.sr_machine.specs.Core.{Core, opening}
 use Rattle.sr_machine.specs.Deciding.{learned}
 use Rattle.sr_machine.specs.Keeping.{begun_core}
+use Rattle.sr_inv_facts.specs.Putting.{put_core}
+use Rattle.sr_machine.specs.declared.put.Put.{Put}
+use Rattle.sr_inv_facts.specs.Invariant.{Invariant}
+use Rattle.sr_machine.specs.declared.draw.Draw.TheVariants.{Reserved}
+use Rattle.sr_machine.specs.declared.job.Job.TheVariants.{Draw, Free}
+use Rattle.std.proofs.Common.{◌≡◌}
 
 openings_of : (s : Core) → PushedAre s → LearnedAre s → EntriesOpened s → ReportedAre s → DeadAreSilent s → InOpenings s
 openings_of s pushed learned entry reported dead =
@@ -25,6 +31,10 @@ openings_begun s i =
     openings_of (begun_core s) (begun_keeps PushedAre pushed_part pushed_keep s i) (begun_keeps LearnedAre learned_part learned_keep s i)
     (begun_keeps EntriesOpened entry_part entry_keep s i) (begun_keeps ReportedAre reported_part reported_keep s i)
     (begun_keeps DeadAreSilent dead_part dead_keep s i)
+
+pub openings_put : (s : Core) (p : Put) → s.controller.job ≡ Free → Invariant s → InOpenings (put_core s p)
+openings_put s p free i =
+    openings_of (put_core s p) (pushed_part s i) (learned_part s i) (entry_begins s i free (Draw (Reserved p))) (reported_part s i) tt
 
 pub openings_event : EventsKeep InOpenings
 openings_event s t e h allowed q =

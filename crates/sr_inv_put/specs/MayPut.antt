@@ -1,9 +1,11 @@
 -- When a put may begin, whoever chose its place.
-use Rattle.std.specs.Prelude.{◌≡◌, ℕ, ◌⊎◌, true, List}
+use Rattle.std.specs.Prelude.{◌≡◌, ℕ, ◌⊎◌, false, true, List}
 use Rattle.sr_base.specs.declared.place.Place.TheVariants.{Row}
 use Rattle.sr_base.specs.declared.shape.Shape.{Shape}
 use Rattle.sr_hash.specs.Uses.{is_place_of}
 use Rattle.sr_inv_facts.specs.InJobs.{AimHolds}
+use Rattle.sr_inv_facts.specs.Invariant.{Invariant}
+use Rattle.sr_inv_facts.specs.Putting.{put_core}
 use Rattle.sr_machine.specs.Core.{Core}
 use Rattle.sr_machine.specs.Starting.{begun}
 use Rattle.sr_machine.specs.declared.held_opener.HeldOpener.{HeldOpener}
@@ -32,6 +34,16 @@ MayTake shape entries p aim = MayEnter shape entries p
 pub record MayPut (shape : Shape) (entries : List Entry) (held : List HeldOpener) (p : Put) : Type 0 where
   pub aim : AimHolds entries held p p.aim
   pub place : MayTake shape entries p p.aim
+
+-- a controller may begin the put: it has no job, no refusal was told to it, and the put may begin by its book and by its held openers
+pub record MayBeginPut (s : Core) (p : Put) : Type 0 where
+  pub free : s.controller.job ≡ Free
+  pub calm : s.controller.refusing ≡ false
+  pub may : MayPut s.config.layout.shape s.controller.book.entries s.controller.held p
+
+-- the invariant is kept by every put that a controller may begin
+abbrev pub PutsKeepInvariant : Type 0
+PutsKeepInvariant = (s : Core) (p : Put) → Invariant s → MayBeginPut s p → Invariant (put_core s p)
 
 -- of a put that begins with this job
 abbrev pub OnBegun : Job → (Put → Type 0) → Type 0

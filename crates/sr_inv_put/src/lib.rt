@@ -5,4 +5,4 @@
 
 mod laws;
 
-pub use laws::{plans_may_be_put, puts_hold};
+pub use laws::{plans_may_be_put, puts_hold, puts_keep_the_invariant};

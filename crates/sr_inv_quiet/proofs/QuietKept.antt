@@ -32,6 +32,8 @@ use Rattle.std.proofs.lemmas.Bool.{cases_eq}
 use Rattle.std.proofs.lemmas.Bool.Decides.{nat_tests}
 use Rattle.std.specs.List.{AllByRecursion}
 use Rattle.std.specs.Option.{option_or}
+use Rattle.sr_inv_facts.specs.Putting.{put_core}
+use Rattle.sr_machine.specs.declared.put.Put.{Put}
 use Rattle.sr_machine.specs.declared.draw.Draw.TheVariants as draw
 use Rattle.sr_machine.specs.declared.job.Job.TheVariants as job
 use Rattle.sr_machine.specs.declared.stage.Stage.TheVariants as stage
@@ -158,6 +160,12 @@ module _ (s : Core) (i : Invariant s) where
       all_to_in _ es (λ e m. entry_turns (printed s) (printed s) s.controller.sweeps s.controller.sweeps job.Free start.job e
       (ap (λ b. if b then s.controller.sweeps + 1 else s.controller.sweeps) ((begins_none s start b).past e.taken))
       (carries_silent (printed s) s.controller.sweeps job.Free start.job (begins_none s start b).running e.key s.controller.sweeps) (before job.Free free e m))
+
+pub quiet_put : (s : Core) (p : Put) → s.controller.job ≡ job.Free → Invariant s → QuietAre (put_core s p)
+quiet_put s p free i =
+    let m : Job = job.Draw (draw.Reserved p) in
+    all_to_in _ s.controller.book.entries (λ e inside. entry_turns (printed s) (printed s) s.controller.sweeps s.controller.sweeps job.Free m e refl
+    (carries_silent (printed s) s.controller.sweeps job.Free m refl e.key s.controller.sweeps) (before s i job.Free free e inside))
 
 pub quiet_keep : Keeps IsPacket Invariant QuietAre
 quiet_keep = record {

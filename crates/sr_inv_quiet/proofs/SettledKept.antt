@@ -53,6 +53,8 @@ use Rattle.std.proofs.lemmas.Bool.Decides.{nat_tests}
 use Rattle.std.proofs.lemmas.Option.{same_Some}
 use Rattle.std.specs.List.{AllByRecursion}
 use Rattle.std.specs.Option.{option_or}
+use Rattle.sr_inv_facts.specs.Putting.{put_core}
+use Rattle.sr_machine.specs.declared.put.Put.{Put}
 use Rattle.sr_machine.specs.declared.draw.Draw.TheVariants as draw
 use Rattle.sr_machine.specs.declared.store.Store.TheVariants as store
 use Rattle.sr_machine.specs.declared.job.Job.TheVariants as job
@@ -282,6 +284,12 @@ module _ (s : Core) (i : Invariant s) where
         flights = each_set s.pipes p v (record v { stage = stage.Enter packet }) q (λ n u. OnLeg u.stage (FlightSettled (hit_words s.words) base (since (printed s) e.key) place e)) h.flights tt;
         told = h.told;
       }
+
+pub settled_put : (s : Core) (p : Put) → s.controller.job ≡ job.Free → Invariant s → SettledAre (put_core s p)
+settled_put s p free i =
+    let m : Job = job.Draw (draw.Reserved p) in
+    all_to_in _ s.controller.book.entries (λ e inside. silent_goes s i job.Free m free (record { running = refl; past = λ n. refl })
+    (record { running = refl; past = λ n. refl }) e e inside (twin_self e) refl)
 
 pub settled_keep : Keeps IsPacket Invariant SettledAre
 settled_keep = record {

@@ -32,6 +32,8 @@ use Rattle.sr_machine.specs.declared.op.Op.{Op}
 use Rattle.sr_machine.specs.declared.pipe_view.PipeView.{PipeView}
 use Rattle.sr_machine.specs.declared.stage.Stage.{Stage}
 use Rattle.sr_update.specs.Updates.{gives_after}
+use Rattle.sr_inv_facts.specs.Putting.{put_core}
+use Rattle.sr_machine.specs.declared.put.Put.{Put}
 use Rattle.sr_machine.specs.declared.stage.Stage.TheVariants as stage
 use Rattle.sr_machine.specs.Begins as begin
 use Rattle.sr_machine.specs.declared.draw.Draw.TheVariants as draw
@@ -167,6 +169,14 @@ begins_kept s f = record {
   pipes = f.pipes;
   book = f.book;
   controller = begun_by s.config s.controller (ControllerFits s.config) f.controller (start_fits s.config f.config.layout s.controller f.controller);
+}
+
+pub shapes_put : (s : Core) (p : Put) → s.controller.job ≡ job.Free → InShape s → InShape (put_core s p)
+shapes_put s p free f = record {
+  config = f.config;
+  pipes = f.pipes;
+  book = f.book;
+  controller = set_fits s.config f.config.layout s.controller f.controller (job.Draw (draw.Reserved p)) free refl tt;
 }
 
 -- ---- all of them

@@ -50,6 +50,8 @@ use Rattle.sr_machine.specs.declared.stage.Stage.TheVariants.{Idle, Enter}
 use Rattle.sr_machine.specs.declared.wait.Wait.{Wait}
 use Rattle.sr_shadow.specs.Book.{without_key}
 use Rattle.sr_shadow.specs.Entry.{is_of}
+use Rattle.sr_inv_facts.specs.Putting.{put_core}
+use Rattle.sr_machine.specs.declared.put.Put.{Put}
 use Rattle.sr_machine.specs.Goes as go
 use Rattle.sr_machine.specs.declared.draw.Draw.TheVariants as draw
 use Rattle.sr_machine.specs.declared.store.Store.TheVariants as store
@@ -324,6 +326,19 @@ module _ (s : Core) (i : Invariant s) where
   closed_job j e = plain_closed s i j (job_op s.config s.controller j) e tt (λ key z. z) (λ x. refl) (λ n c. refl) (job_tells s j i.ticks)
 
 -- ---- what it begins, and a packet that enters
+
+pub closed_put : (s : Core) (p : Put) → s.controller.job ≡ job.Free → ClosedAre s → ClosedAre (put_core s p)
+closed_put s p free h = record {
+  closed = h.closed;
+  closes = λ n m low less r read.
+      if_close r.kind (HasEnded s.pipes (printed s) r.key ⊎ IsRetiring s.config.layout s.controller.job r.key n m)
+      (HasEnded s.pipes (printed s) r.key ⊎ IsRetiring s.config.layout (job.Draw (draw.Reserved p)) r.key n m) (turn n m r) (h.closes n m low less r read);
+}
+  where
+    turn : (n m : ℕ) (r : RingWord) → HasEnded s.pipes (printed s) r.key ⊎ IsRetiring s.config.layout s.controller.job r.key n m
+        → HasEnded s.pipes (printed s) r.key ⊎ IsRetiring s.config.layout (job.Draw (draw.Reserved p)) r.key n m
+    turn n m r (inl g) = inl g
+    turn n m r (inr g) = absurd (subst (λ j. IsRetiring s.config.layout j r.key n m) free g)
 
 begins_closed : (s : Core) → ClosedAre s → ClosedAre (begun_core s)
 begins_closed s h =

@@ -45,6 +45,8 @@ use Rattle.sr_machine.specs.declared.stage.Stage.{Stage}
 use Rattle.sr_machine.specs.declared.stage.Stage.TheVariants.{Fly, Enter}
 use Rattle.sr_shadow.specs.Entry.{swept}
 use Rattle.sr_shadow.specs.declared.entry.Entry.{Entry}
+use Rattle.sr_inv_facts.specs.Putting.{put_core}
+use Rattle.sr_machine.specs.declared.put.Put.{Put}
 use Rattle.sr_machine.specs.Goes as go
 use Rattle.sr_machine.specs.declared.draw.Draw.TheVariants as draw
 use Rattle.sr_machine.specs.declared.store.Store.TheVariants as store
@@ -259,6 +261,15 @@ begins_counted s h =
     at start (begin.sweeps ms r f) = set _ (grind (arith, nat_tests)) (λ key. refl)
     at start (begin.releases vip m r) = set _ tt (λ key. refl)
     at start (begin.looks r) = set _ tt (λ key. refl)
+
+pub counts_put : (s : Core) (p : Put) → SweepsAreCounted s → SweepsAreCounted (put_core s p)
+counts_put s p h = record {
+  idle = tt;
+  last = h.last;
+  each = h.each;
+  fresh =
+      all_of (λ e. is_fresh (job.Draw (draw.Reserved p)) e.key ≡ true → e.quiet ≡ None) (λ e f. absurd (true≢false (sym f))) s.controller.book.entries;
+}
 
 pub counts_keep : Keeps IsPacket Invariant SweepsAreCounted
 counts_keep = record {

@@ -7,7 +7,6 @@ use Rattle.sr_base.specs.declared.vip_word.Phase.TheVariants.{Steady, Recording,
 use Rattle.sr_inv_facts.proofs.Lists.{all_then}
 use Rattle.sr_inv_facts.specs.Fitted.{IsFitted}
 use Rattle.sr_inv_facts.specs.InShape.{ControllerFits}
-use Rattle.sr_inv_facts.specs.InTicks.{below}
 use Rattle.sr_inv_facts.specs.InUpdate.{ChangesHold, IsRefused, IsToCome, NothingFree, OnRefused, UpdateHolds, group_by, group_of_phase, is_ungiven}
 use Rattle.sr_inv_update.proofs.Changes.{change_fits}
 use Rattle.sr_inv_update.proofs.ChangesKept.{none_ungiven}
@@ -21,9 +20,7 @@ use Rattle.sr_machine.proofs.Following.{first_begins}
 use Rattle.sr_machine.specs.Begins.{Begins}
 use Rattle.sr_machine.specs.Config.{Config}
 use Rattle.sr_machine.specs.Deciding.{vip_at}
-use Rattle.sr_machine.specs.Settling.{refused}
 use Rattle.sr_machine.specs.Starting.{Start, first_act, refusal_act, refusal_of, refusal_start, update_to, with_job, beginning}
-use Rattle.sr_machine.specs.Telling.{may_refuse}
 use Rattle.sr_machine.specs.declared.controller_view.ControllerView.{ControllerView}
 use Rattle.sr_machine.specs.declared.job.Job.{Job}
 use Rattle.sr_machine.specs.declared.pool_update.PoolUpdate.{PoolUpdate}
@@ -75,7 +72,7 @@ module _ (k : Config) (c : ControllerView) (lines : List Line) (f : IsFitted k) 
       }
 
   module _ (no_refusal : c.refusing ≡ false) where
-    as_job : (m : Job) → OnRefused m (λ i. ⊥) → is_ungiven m ≡ false
+    pub as_job : (m : Job) → OnRefused m (λ i. ⊥) → is_ungiven m ≡ false
         → group_by c.update c.vips m (group_last k.layout.vips lines) ≡ group_by c.update c.vips job.Free (group_last k.layout.vips lines)
         → Started (with_job c m)
     as_job m n un g = record {
@@ -93,7 +90,7 @@ module _ (k : Config) (c : ControllerView) (lines : List Line) (f : IsFitted k) 
         never P (job.Draw (draw.Refused i)) n = absurd n
         never P m n = tt
 
-    plain : (m : Job) → IsPlainGroup m
+    pub plain : (m : Job) → IsPlainGroup m
         → group_by c.update c.vips m (group_last k.layout.vips lines) ≡ group_by c.update c.vips job.Free (group_last k.layout.vips lines)
     plain m p = plain_group c.update c.vips job.Free m (group_last k.layout.vips lines) tt p
 

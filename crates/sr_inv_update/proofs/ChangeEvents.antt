@@ -11,7 +11,7 @@ use Rattle.sr_inv_facts.specs.InShape.{JobFits}
 use Rattle.sr_inv_facts.specs.InUpdate.{ChangesHold, ChangesKept, IsToCome, OnRefused, OnUngiven, UpdateHolds, group_by}
 use Rattle.sr_inv_facts.specs.Invariant.{Invariant}
 use Rattle.sr_inv_facts.specs.Laws.{OpensWith}
-use Rattle.sr_inv_update.proofs.ChangeBegins.{first_changes}
+use Rattle.sr_inv_update.proofs.ChangeBegins.{first_changes, as_job, plain}
 use Rattle.sr_inv_update.proofs.Changes.{change_fits}
 use Rattle.sr_inv_update.proofs.ChangesKept.{changes_go}
 use Rattle.sr_inv_update.proofs.GivesRise.{all_past_first}
@@ -22,15 +22,13 @@ use Rattle.sr_law.specs.Groups.{is_over, last_of_update, was_given_past}
 use Rattle.sr_law.specs.Order.{refused_past}
 use Rattle.sr_law.specs.declared.line.Line.{Line}
 use Rattle.sr_law.specs.declared.verdict.Verdict.{Verdict}
-use Rattle.sr_machine.specs.Core.{printed, Core, enters, newest_first, pipe_lines}
+use Rattle.sr_machine.specs.Core.{printed, Core, newest_first, pipe_lines}
 use Rattle.sr_machine.specs.Jobs.{book_next, job_next, job_op, lines_next, numbers_next, update_next, vips_next}
 use Rattle.sr_machine.specs.Keeping.{AfterJob, AfterStage, Keeps, begun_core}
 use Rattle.sr_machine.specs.Opening.{opening_controller}
 use Rattle.sr_machine.specs.Ops.{op_answer, op_name}
 use Rattle.sr_machine.specs.Pipe.{packet_line, pipe_op}
 use Rattle.sr_machine.specs.Reads.{steady}
-use Rattle.sr_machine.specs.Settling.{refused}
-use Rattle.sr_machine.specs.Telling.{may_refuse}
 use Rattle.sr_machine.specs.declared.flight.Flight.{Flight}
 use Rattle.sr_machine.specs.declared.job.Job.{Job}
 use Rattle.sr_machine.specs.declared.op.Op.{Op}
@@ -39,6 +37,8 @@ use Rattle.sr_machine.specs.declared.pool_update.PoolUpdate.{PoolUpdate}
 use Rattle.sr_machine.specs.declared.stage.Stage.{Stage}
 use Rattle.sr_update.specs.Numbers.{opening_rows}
 use Rattle.sr_update.specs.Updates.{gives_after}
+use Rattle.sr_inv_facts.specs.Putting.{put_core}
+use Rattle.sr_machine.specs.declared.put.Put.{Put}
 use Rattle.sr_machine.specs.declared.stage.Stage.TheVariants as stage
 use Rattle.sr_machine.specs.declared.draw.Draw.TheVariants as draw
 use Rattle.sr_machine.specs.declared.job.Job.TheVariants as job
@@ -113,6 +113,14 @@ begins_kept s i h =
     begun_first s.config s.controller (λ c. ChangesHold s.config (printed s) c.update c.vips c.numbers c.book.entries c.gives c.refusing c.job) h (λ q. first_changes s.config s.controller (printed s) i.shape.config i.shape.controller
     (subst (ChangesHold s.config (printed s) s.controller.update s.controller.vips s.controller.numbers s.controller.book.entries s.controller.gives s.controller.refusing) q h)
     (λ t g. start_phases s.config s.controller i.shape.config i.shape.controller (printed s) i.update.versions q (subst (UpdateHolds s.config s.controller.update s.controller.vips) q i.update.update) t g))
+
+pub changes_put : (s : Core) (p : Put) → s.controller.job ≡ job.Free → s.controller.refusing ≡ false → Invariant s
+    → ChangesKept (put_core s p)
+changes_put s p free calm i =
+    let c = s.controller in
+    let was = subst (ChangesHold s.config (printed s) c.update c.vips c.numbers c.book.entries c.gives c.refusing) free i.update.changes in
+    as_job s.config c (printed s) i.shape.config i.shape.controller was calm (job.Draw (draw.Reserved p)) tt refl
+    (plain s.config c (printed s) i.shape.config i.shape.controller was calm (job.Draw (draw.Reserved p)) tt)
 
 pub changes_keep : Keeps IsPacket Invariant ChangesKept
 changes_keep = record {

@@ -11,7 +11,6 @@ use Rattle.sr_base.specs.declared.change.What.{What}
 use Rattle.sr_base.specs.declared.change.What.TheVariants.{Give, TakeDown}
 use Rattle.sr_inv_facts.proofs.Lists.{all_back, all_got, all_more}
 use Rattle.sr_inv_facts.specs.Fitted.{IsFitted}
-use Rattle.sr_inv_facts.specs.InTicks.{same}
 use Rattle.sr_inv_facts.specs.Readings.{IsEnd}
 use Rattle.sr_law.specs.Pools.{VipPools, gives_to, numbered, pool_of, pools_from}
 use Rattle.sr_machine.specs.Config.{Config}

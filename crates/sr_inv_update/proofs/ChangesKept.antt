@@ -1,5 +1,5 @@
 -- Each step keeps what is said of the changes that are still to be made, and the open group of lines.
-use Rattle.std.proofs.Common.{◌≡◌, ℕ, ◌+◌, ◌<◌, ◌≤◌, Bool, true, false, cond, ◌&&◌, ◌||◌, ◌⊎◌, List, [], ◌∷◌, ◌++◌, length, if◌then◌else◌, nat_le, ◌==◌, slice_set, Some, None, Option, option_to_list, position, sym, refl, ap, ◌∙◌, subst, inl, inr, true≢false, arith}
+use Rattle.std.proofs.Common.{◌≡◌, ℕ, ◌+◌, ◌<◌, ◌≤◌, Bool, true, false, cond, ◌&&◌, ◌||◌, ◌⊎◌, List, [], ◌∷◌, ◌++◌, length, if◌then◌else◌, nat_le, ◌==◌, slice_set, Some, None, Option, option_to_list, sym, refl, ap, ◌∙◌, subst, inl, inr, true≢false, arith}
 use Rattle.std.proofs.lemmas.Bool.Decides.{nat_tests}
 use Rattle.std.proofs.lemmas.List.Sums.{sum_by-append, sum_by-cons}
 use Rattle.std.specs.List.{list_any, AllByRecursion}
@@ -25,10 +25,8 @@ use Rattle.sr_machine.specs.Config.{Config}
 use Rattle.sr_machine.specs.Draws.{cleared_job, draw_line, phase_job, phase_line}
 use Rattle.sr_machine.specs.Goes.{Goes}
 use Rattle.sr_machine.specs.Jobs.{book_next, drained, job_next, numbers_next, update_next, vips_next}
-use Rattle.sr_machine.specs.Settling.{refused}
 use Rattle.sr_machine.specs.Stores.{vip_draw, is_last_filter, phase_word}
 use Rattle.sr_machine.specs.Taking.{taking}
-use Rattle.sr_machine.specs.Telling.{may_refuse}
 use Rattle.sr_machine.specs.Waiting.{all_passed, live_job, passed_phase, waited_job, waited_phase}
 use Rattle.sr_machine.specs.declared.controller_view.ControllerView.{ControllerView}
 use Rattle.sr_machine.specs.declared.draw.Draw.{Draw}

@@ -6,7 +6,6 @@ use Rattle.sr_base.specs.declared.vip_word.Phase.{Phase}
 use Rattle.sr_base.specs.declared.vip_word.Phase.TheVariants.{Steady, Recording, Holding, Transit}
 use Rattle.sr_base.specs.declared.vip_word.VipWord.{VipWord}
 use Rattle.sr_inv_facts.specs.InShape.{MayDrain}
-use Rattle.sr_inv_facts.specs.InTicks.{same}
 use Rattle.sr_inv_facts.specs.InUpdate.{AtFirst, AtPhase, JobAt, UpdateFits, group_by, group_first, group_of_phase, group_steady}
 use Rattle.sr_inv_update.proofs.Groups.{IsPlainGroup, group_at, group_last, group_more, plain_group}
 use Rattle.sr_inv_update.proofs.Phases.{storing, vip_here}
@@ -26,7 +25,6 @@ use Rattle.sr_machine.specs.declared.put.Put.{Put}
 use Rattle.sr_machine.specs.declared.wait.Wait.{Wait}
 use Rattle.sr_machine.specs.declared.why.Why.{Why}
 use Rattle.sr_shadow.specs.declared.entry.Entry.{Entry}
-use Rattle.sr_machine.specs.Goes as go
 use Rattle.sr_machine.specs.declared.draw.Draw.TheVariants as draw
 use Rattle.sr_machine.specs.declared.store.Store.TheVariants as store
 use Rattle.sr_machine.specs.declared.wait.Wait.TheVariants as wait

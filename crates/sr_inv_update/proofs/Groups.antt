@@ -9,7 +9,6 @@ use Rattle.sr_law.specs.declared.line.Line.{Line}
 use Rattle.sr_machine.specs.Deciding.{vip_at}
 use Rattle.sr_machine.specs.declared.job.Job.{Job}
 use Rattle.sr_machine.specs.declared.pool_update.PoolUpdate.{PoolUpdate}
-use Rattle.sr_machine.specs.Goes as go
 use Rattle.sr_machine.specs.declared.draw.Draw.TheVariants as draw
 use Rattle.sr_machine.specs.declared.store.Store.TheVariants as store
 use Rattle.sr_machine.specs.declared.job.Job.TheVariants as job

@@ -9,7 +9,6 @@ use Rattle.sr_base.specs.declared.vip_word.Phase.TheVariants.{Steady, Recording,
 use Rattle.sr_base.specs.declared.vip_word.VipWord.{VipWord}
 use Rattle.sr_inv_facts.proofs.Lists.{of_some}
 use Rattle.sr_inv_facts.specs.InShape.{JobFits, MayDrain}
-use Rattle.sr_inv_facts.specs.InTicks.{same}
 use Rattle.sr_inv_facts.specs.InUpdate.{AtPhase, AtRest, IsAside, IsPlacing, IsWordOf, JobAt, UpdateFits, UpdateHolds, WaitAt}
 use Rattle.sr_machine.specs.Config.{Config}
 use Rattle.sr_machine.specs.Deciding.{update_pool, vip_at}

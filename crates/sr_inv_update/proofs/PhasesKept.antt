@@ -10,7 +10,6 @@ use Rattle.sr_inv_facts.proofs.Beginning.{begun_by}
 use Rattle.sr_inv_facts.proofs.Lists.{got_or, of_some}
 use Rattle.sr_inv_facts.specs.Fitted.{IsFitted, IsPacket}
 use Rattle.sr_inv_facts.specs.InShape.{ControllerFits, JobFits, WordFits}
-use Rattle.sr_inv_facts.specs.InTicks.{below}
 use Rattle.sr_inv_facts.specs.InUpdate.{AtPhase, IsAside, IsWordOf, JobAt, PhasesHold, UpdateHolds, VersionsHold, standing}
 use Rattle.sr_inv_facts.specs.Invariant.{Invariant}
 use Rattle.sr_inv_facts.specs.Laws.{OpensWith}
@@ -21,7 +20,7 @@ use Rattle.sr_law.specs.declared.line.Line.{Line}
 use Rattle.sr_machine.proofs.Following.{goes}
 use Rattle.sr_machine.specs.Begins.{Begins}
 use Rattle.sr_machine.specs.Config.{Config}
-use Rattle.sr_machine.specs.Core.{Core, enters, printed}
+use Rattle.sr_machine.specs.Core.{Core, printed}
 use Rattle.sr_machine.specs.Deciding.{vip_at}
 use Rattle.sr_machine.specs.Jobs.{job_next, job_op, update_next, vips_next}
 use Rattle.sr_machine.specs.Keeping.{AfterJob, AfterStage, Keeps, begun_core}
@@ -41,6 +40,8 @@ use Rattle.sr_update.specs.Numbers.{NumberRows, first_number, is_free, least_fre
 use Rattle.sr_update.specs.declared.give_change.GiveChange.{GiveChange}
 use Rattle.sr_update.specs.declared.number_state.NumberState.{NumberState}
 use Rattle.sr_update.specs.declared.number_state.NumberState.TheVariants.{Free, Current, Draining}
+use Rattle.sr_inv_facts.specs.Putting.{put_core}
+use Rattle.sr_machine.specs.declared.put.Put.{Put}
 use Rattle.sr_machine.specs.Begins as begin
 use Rattle.sr_machine.specs.declared.draw.Draw.TheVariants as draw
 use Rattle.sr_machine.specs.declared.store.Store.TheVariants as store
@@ -183,6 +184,11 @@ module _ (k : Config) (c : ControllerView) (f : IsFitted k) (b : ControllerFits 
 begins_kept : (s : Core) → Invariant s → PhasesHold s → PhasesHold (begun_core s)
 begins_kept s i h =
     begun_by s.config s.controller (λ c. UpdateHolds s.config c.update c.vips c.job) h (λ q t g. start_phases s.config s.controller i.shape.config i.shape.controller (printed s) i.update.versions q (subst (UpdateHolds s.config s.controller.update s.controller.vips) q h) t g)
+
+pub phases_put : (s : Core) (p : Put) → s.controller.job ≡ job.Free → PhasesHold s → PhasesHold (put_core s p)
+phases_put s p free h =
+    let was = subst (UpdateHolds s.config s.controller.update s.controller.vips) free h in
+    record { fits = was.fits; word = was.word; others = was.others; phase = was.phase }
 
 -- ---- a pipe's step leaves it alone
 

@@ -11,10 +11,8 @@ use Rattle.sr_inv_facts.specs.InShape.{ControllerFits}
 use Rattle.sr_inv_facts.specs.InUpdate.{IsToCome, JobWaited, VersionsHold, is_ungiven}
 use Rattle.sr_inv_update.proofs.PhasesKept.{found_number, free_number}
 use Rattle.sr_inv_update.proofs.Versions.{carried}
-use Rattle.sr_law.proofs.Switches.{newer}
 use Rattle.sr_law.specs.Given.{last_given}
 use Rattle.sr_law.specs.Groups.{was_given_past}
-use Rattle.sr_law.specs.Rising.{rises}
 use Rattle.sr_law.specs.declared.giving.Giving.{Giving}
 use Rattle.sr_law.specs.declared.line.Line.{Line}
 use Rattle.sr_machine.specs.Begins.{Begins}
@@ -93,7 +91,7 @@ past_last (l ∷ rest) vip pool g e n = past_last rest vip pool g e n
 -- ---- the beginnings
 
 module _ (k : Config) (c : ControllerView) (lines : List Line) (f : IsFitted k) (w : ControllerFits k c) (free : c.job ≡ job.Free) (come : AllByRecursion (IsToCome lines) c.gives) (h : VersionsHold k lines c.update c.vips c.numbers c.named c.book.entries c.mark job.Free) where
-  begins_as : (m : Job) → is_ungiven m ≡ false → JobWaited c.book.entries c.numbers c.mark m
+  pub begins_as : (m : Job) → is_ungiven m ≡ false → JobWaited c.book.entries c.numbers c.mark m
       → VersionsHold k lines c.update c.vips c.numbers c.named c.book.entries c.mark m
   begins_as m e waited =
       carried k lines lines c.update c.vips c.numbers c.named c.book.entries c.book.entries c.mark c.mark job.Free m h e (λ v. refl) (λ v n. refl) h.newer h.used waited

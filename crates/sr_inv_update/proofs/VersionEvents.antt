@@ -14,14 +14,12 @@ use Rattle.sr_inv_facts.specs.InUpdate.{SwitchesUpTo, UpdateHolds, VersionsHold,
 use Rattle.sr_inv_facts.specs.Invariant.{Invariant}
 use Rattle.sr_inv_facts.specs.Laws.{OpensWith}
 use Rattle.sr_inv_update.proofs.Changes.{change_fits}
-use Rattle.sr_inv_update.proofs.VersionBegins.{start_versions}
+use Rattle.sr_inv_update.proofs.VersionBegins.{start_versions, begins_as}
 use Rattle.sr_inv_update.proofs.VersionsKept.{versions_go}
-use Rattle.sr_law.proofs.Switches.{newer}
 use Rattle.sr_law.specs.Given.{last_given, last_version, of_version}
-use Rattle.sr_law.specs.Rising.{rises}
 use Rattle.sr_law.specs.declared.line.Line.{Line}
 use Rattle.sr_machine.specs.Config.{Config}
-use Rattle.sr_machine.specs.Core.{printed, Core, enters, newest_first, pipe_lines}
+use Rattle.sr_machine.specs.Core.{printed, Core, newest_first, pipe_lines}
 use Rattle.sr_machine.specs.Deciding.{learned, named_at, vip_at}
 use Rattle.sr_machine.specs.Jobs.{book_next, job_next, job_op, lines_next, mark_next, named_next, numbers_next, update_next, vips_next}
 use Rattle.sr_machine.specs.Keeping.{AfterJob, AfterStage, Keeps, begun_core}
@@ -38,7 +36,10 @@ use Rattle.sr_shadow.specs.declared.entry.Entry.{Entry}
 use Rattle.sr_update.specs.Numbers.{NumberRows, is_free, opening_row, state_of}
 use Rattle.sr_update.specs.declared.number_state.NumberState.{NumberState}
 use Rattle.sr_update.specs.declared.number_state.NumberState.TheVariants.{Free, Current}
+use Rattle.sr_inv_facts.specs.Putting.{put_core}
+use Rattle.sr_machine.specs.declared.put.Put.{Put}
 use Rattle.sr_machine.specs.declared.stage.Stage.TheVariants as stage
+use Rattle.sr_machine.specs.declared.draw.Draw.TheVariants as draw
 use Rattle.sr_machine.specs.declared.job.Job.TheVariants as job
 use Rattle.sr_machine.specs.declared.leg.Leg.TheVariants as leg
 use Rattle.sr_machine.specs.declared.leg.Last.TheVariants as last
@@ -115,6 +116,11 @@ stage_kept s p v at now (Some o) h e =
 begins_kept : (s : Core) → Invariant s → VersionsKept s → VersionsKept (begun_core s)
 begins_kept s i h =
     begun_by s.config s.controller (λ c. VersionsHold s.config (printed s) c.update c.vips c.numbers c.named c.book.entries c.mark c.job) h (λ q t g. start_versions s.config s.controller (printed s) i.shape.config i.shape.controller q i.update.changes.to_come (old s i job.Free q) (λ g rest r. (change_fits s.config i.shape.config g rest s.controller.gives i.shape.controller.gives r).0) t g)
+
+pub versions_put : (s : Core) (p : Put) → s.controller.job ≡ job.Free → Invariant s → VersionsKept (put_core s p)
+versions_put s p free i =
+    begins_as s.config s.controller (printed s) i.shape.config i.shape.controller free i.update.changes.to_come (old s i job.Free free)
+    (job.Draw (draw.Reserved p)) refl tt
 
 pub versions_keep : Keeps IsPacket Invariant VersionsKept
 versions_keep = record {

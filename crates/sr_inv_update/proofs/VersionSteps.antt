@@ -8,9 +8,7 @@ use Rattle.sr_inv_facts.proofs.Lists.{all_then}
 use Rattle.sr_inv_facts.specs.InShape.{RowsFit}
 use Rattle.sr_inv_facts.specs.InUpdate.{IsNew, SwitchesUpTo, UpdateFits, VersionsHold, is_used, is_used_by, newest, pool_given, standing}
 use Rattle.sr_inv_update.proofs.Rows.{full_row, named_cases, named_here, state_cases}
-use Rattle.sr_law.proofs.Switches.{newer}
 use Rattle.sr_law.specs.Given.{last_given, last_version, of_version}
-use Rattle.sr_law.specs.Rising.{rises}
 use Rattle.sr_law.specs.declared.line.Line.{Line}
 use Rattle.sr_machine.specs.Config.{Config}
 use Rattle.sr_machine.specs.Deciding.{learned, learned_in, named_at, vip_at, with_named}

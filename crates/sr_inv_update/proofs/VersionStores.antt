@@ -8,14 +8,11 @@ use Rattle.sr_base.specs.declared.vip_word.Phase.{Phase}
 use Rattle.sr_base.specs.declared.vip_word.Phase.TheVariants.{Steady, Recording, Holding, Transit}
 use Rattle.sr_base.specs.declared.vip_word.VipWord.{VipWord}
 use Rattle.sr_inv_facts.proofs.Lists.{all_both, all_then}
-use Rattle.sr_inv_facts.specs.InTicks.{same}
 use Rattle.sr_inv_facts.specs.InUpdate.{IsNew, JobAt, JobWaited, OnUngiven, SwitchesUpTo, UpdateFits, VersionsHold, is_ungiven, is_used, is_used_by, newest, standing}
 use Rattle.sr_inv_update.proofs.Phases.{vip_else, vip_here}
 use Rattle.sr_inv_update.proofs.Rows.{full_row, state_cases, state_inside}
 use Rattle.sr_inv_update.proofs.VersionSteps.{Wide}
 use Rattle.sr_inv_update.proofs.Versions.{newest_same, given_same, sum_then}
-use Rattle.sr_law.proofs.Switches.{newer}
-use Rattle.sr_law.specs.Rising.{rises}
 use Rattle.sr_law.specs.declared.line.Line.{Line}
 use Rattle.sr_machine.specs.Config.{Config}
 use Rattle.sr_machine.specs.Deciding.{learned, learned_in, named_at, vip_at}

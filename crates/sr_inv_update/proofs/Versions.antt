@@ -7,7 +7,6 @@ use Rattle.sr_base.specs.declared.vip_word.Phase.TheVariants.{Steady, Recording,
 use Rattle.sr_base.specs.declared.vip_word.VipWord.{VipWord}
 use Rattle.sr_inv_facts.specs.InUpdate.{IsNew, JobWaited, OnGiven, OnUngiven, SwitchesUpTo, VersionsHold, is_ungiven, is_used, newest, pool_given}
 use Rattle.sr_law.specs.Given.{last_given, last_version}
-use Rattle.sr_law.specs.Rising.{rises}
 use Rattle.sr_law.specs.declared.line.Line.{Line}
 use Rattle.sr_machine.specs.Config.{Config}
 use Rattle.sr_machine.specs.Deciding.{learned, named_at, vip_at}

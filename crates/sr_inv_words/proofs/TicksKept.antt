@@ -44,6 +44,8 @@ use Rattle.sr_machine.specs.declared.stage.Stage.{Stage}
 use Rattle.sr_machine.specs.declared.stage.Stage.TheVariants.{Idle, Enter, Note, Vip, Fly, Leave}
 use Rattle.sr_shadow.specs.Book.{placed_from}
 use Rattle.sr_shadow.specs.declared.entry.Entry.{Entry}
+use Rattle.sr_inv_facts.specs.Putting.{put_core}
+use Rattle.sr_machine.specs.declared.put.Put.{Put}
 use Rattle.sr_machine.specs.declared.leg.Last.TheVariants as last
 use Rattle.sr_machine.specs.declared.leg.Load.TheVariants as load
 use Rattle.sr_machine.specs.declared.name.Name.TheVariants as name
@@ -290,6 +292,22 @@ begins_kept s f = record {
       omega (arith, none, was, f.once t));
   pipes = f.pipes;
   controller = begun_by s.config s.controller ControllerInTime f.controller (λ free start b. (begun_ticks s.config s.controller 0 free f.controller start b).1);
+}
+
+pub ticks_put : (s : Core) (p : Put) → s.controller.job ≡ job.Free → InTicks s → InTicks (put_core s p)
+ticks_put s p free f = record {
+  once = λ t.
+      let none : job_times t (job.Draw (draw.Reserved p)) ≡ 0 = refl in
+      let was : job_times t s.controller.job ≡ 0 = ap (job_times t) free in
+      omega (arith, none, was, f.once t);
+  pipes = f.pipes;
+  controller = record {
+    own = f.controller.own;
+    rise = f.controller.rise;
+    from = tt;
+    drawn = f.controller.drawn;
+    taken = f.controller.taken;
+  };
 }
 
 enter_kept : (s : Core) (p : ℕ) (v : PipeView) (packet : Packet) → slice_get s.pipes p ≡ Some v → is_idle v.stage ≡ true

@@ -29,7 +29,10 @@ use Rattle.sr_machine.specs.declared.op.Op.{Op}
 use Rattle.sr_machine.specs.declared.pipe_view.PipeView.{PipeView}
 use Rattle.sr_machine.specs.declared.stage.Stage.{Stage}
 use Rattle.sr_machine.specs.declared.stage.Stage.TheVariants.{Enter}
+use Rattle.sr_inv_facts.specs.Putting.{put_core}
+use Rattle.sr_machine.specs.declared.put.Put.{Put}
 use Rattle.sr_machine.specs.Begins as begin
+use Rattle.sr_machine.specs.declared.draw.Draw.TheVariants as draw
 use Rattle.sr_machine.specs.declared.job.Job.TheVariants as job
 
 -- ---- a step
@@ -99,6 +102,14 @@ begins_kept s f = record {
   note = f.note;
   ring = f.ring;
   others = begun_by s.config s.controller (WordsHold s.config s.words) f.others (words_begun s.config s.words s.controller f.others);
+}
+
+pub words_put : (s : Core) (p : Put) → s.controller.job ≡ job.Free → InWords s → InWords (put_core s p)
+words_put s p free f = record {
+  tick = f.tick;
+  note = f.note;
+  ring = f.ring;
+  others = begun_job s.config s.words s.controller f.others free (job.Draw (draw.Reserved p)) (λ q. refl) (λ n. refl) tt (λ n z. z);
 }
 
 -- ---- a packet enters

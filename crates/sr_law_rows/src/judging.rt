@@ -1,8 +1,7 @@
 //! Judges the rows, and each of their edits, by both bodies of the auditor.
-use crate::fields::{number, word, words};
-use crate::lines::{is_edit, last_verdict, line};
 use crate::row::Row;
 use crate::row_texts::ROWS;
+use crate::words::{is_edit, number, printed, word, words};
 use sr_audit::check;
 use sr_base::Layout;
 use sr_law::{CheckRefusal, Clause, Line, Setup, check_plain};
@@ -33,9 +32,9 @@ fn judged(alloc: Global, setup: &Setup, lines: &[Line]) -> Option<(usize, Clause
 }
 
 // The lines with these in place of the one at this position, from 1.
-fn edited(alloc: Global, lines: &[Line], number: u64, new: &[Line]) -> Result<Vec<Line>, Fail> {
+fn edited(alloc: Global, lines: &[Line], number: u32, new: &[Line]) -> Result<Vec<Line>, Fail> {
     let mut after = Vec::new(alloc);
-    let mut position = 0u64;
+    let mut position = 0u32;
     for old in lines {
         position = position.saturating_add(1);
         if position == number {
@@ -47,14 +46,26 @@ fn edited(alloc: Global, lines: &[Line], number: u64, new: &[Line]) -> Result<Ve
     Ok(after)
 }
 
-// The line that an edit puts in, or none.
-fn put_in(alloc: Global, words: &[&str]) -> Result<Vec<Line>, Fail> {
-    let mut new = Vec::new(alloc);
-    if word(words, 0) == "edit" {
-        let verdict = last_verdict(words, 4);
-        new.push(line(words, 4, verdict))?;
+// What is behind the first four words of a line.
+fn behind_four(line: &str) -> &str {
+    let mut rest = line;
+    for _word in 0..4 {
+        rest = match rest.split_once(' ') {
+            Some((_, behind)) => behind,
+            None => "",
+        };
     }
-    Ok(new)
+    rest
+}
+
+// The line that an edit puts in, or none.
+fn put_in(alloc: Global, edit: &str) -> Result<Vec<Line>, Fail> {
+    if edit.starts_with("drop ") {
+        return Ok(Vec::new(alloc));
+    }
+    let mut line = String::from_str(alloc, behind_four(edit))?;
+    line.push_str("\n")?;
+    printed(alloc, line.as_str())
 }
 
 // The clause that an edit names; None for `ok`.
@@ -73,30 +84,36 @@ fn clause(words: &[&str], i: usize) -> Option<Clause> {
 }
 
 // What an edit says that the auditor answers.
-fn wanted(words: &[&str]) -> Option<(usize, Clause)> {
+fn wanted(words: &[&str]) -> Result<Option<(usize, Clause)>, Fail> {
     match clause(words, 2) {
-        Some(clause) => Some((number(words, 3) as usize, clause)),
-        None => None,
+        Some(clause) => Ok(Some((number(words, 3)? as usize, clause))),
+        None => Ok(None),
     }
 }
 
-// The list after the edit of this line of a row's text.
-fn list_after(alloc: Global, lines: &[Line], words: &[&str]) -> Result<Vec<Line>, Fail> {
+// The list after an edit.
+fn list_after(
+    alloc: Global,
+    lines: &[Line],
+    edit: &str,
+    words: &[&str],
+) -> Result<Vec<Line>, Fail> {
     if word(words, 1) == "all" {
         Ok(Vec::new(alloc))
     } else {
-        let new = put_in(alloc, words)?;
-        edited(alloc, lines, number(words, 1), new.as_slice())
+        let new = put_in(alloc, edit)?;
+        edited(alloc, lines, number(words, 1)?, new.as_slice())
     }
 }
 
 // Whether the list that this line of a row's text edits is judged as it says. A line that edits nothing is.
-fn is_judged_so(alloc: Global, row: &Row, setup: &Setup, words: &[&str]) -> Result<bool, Fail> {
-    if !is_edit(words) {
+fn is_judged_so(alloc: Global, row: &Row, setup: &Setup, line: &str) -> Result<bool, Fail> {
+    if !is_edit(line) {
         return Ok(true);
     }
-    let after = list_after(alloc, row.lines.as_slice(), words)?;
-    Ok(judged(alloc, setup, after.as_slice()) == wanted(words))
+    let words = words(alloc, line)?;
+    let after = list_after(alloc, row.lines.as_slice(), line, words.as_slice())?;
+    Ok(judged(alloc, setup, after.as_slice()) == wanted(words.as_slice())?)
 }
 
 // The first line of a row's text whose edit isn't judged as it says. Empty where each is.
@@ -107,7 +124,7 @@ fn misjudged_edit<'a>(
     text: &'a str,
 ) -> Result<&'a str, Fail> {
     for line in text.split('\n') {
-        if !is_judged_so(alloc, row, setup, words(alloc, line)?.as_slice())? {
+        if !is_judged_so(alloc, row, setup, line)? {
             return Ok(line);
         }
     }

@@ -1,15 +1,13 @@
 //! The worked rows of lawful lists, and edits of them, judged by both bodies of the auditor.
 //!
-//! `row_texts` has the rows; `fields`, `lines` and `row` read one; `judging` judges it and each of its edits.
+//! `row_texts` has the rows; `words` and `row` read one, its lines as the auditor's command reads a log; `judging` judges it and each of its edits.
 #![tactic(auto)]
 
 #[cfg(test)]
-mod fields;
-#[cfg(test)]
 mod judging;
-#[cfg(test)]
-mod lines;
 #[cfg(test)]
 mod row;
 #[cfg(test)]
 mod row_texts;
+#[cfg(test)]
+mod words;

@@ -1,5 +1,5 @@
 use Rattle.sr_inv_facts.proofs.Keeping.{begun_keeps, events_keep}
-use Rattle.sr_inv_facts.specs.InUpdate.{ChangesKept, InUpdate, PhasesHold, VersionsKept}
+use Rattle.sr_inv_facts.specs.InUpdate.{ChangesKept, PhasesHold, VersionsKept}
 use Rattle.sr_inv_update.proofs.ChangeEvents.{changes_keep, changes_open}
 use Rattle.sr_inv_update.proofs.PhasesKept.{phases_keep, phases_open}
 use Rattle.sr_inv_update.proofs.VersionEvents.{versions_keep, versions_open}
