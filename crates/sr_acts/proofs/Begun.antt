@@ -54,7 +54,7 @@ op_begun k c s (Drain pipe n w) = refl
 op_begun k c s (Look pipe) = refl
 op_begun k c s (Hit from ms key place n) = refl
 
-job_started : (c : ControllerView) (b : Beginning) → (start_for c b).job ≡ job_for b
+pub job_started : (c : ControllerView) (b : Beginning) → (start_for c b).job ≡ job_for b
 job_started c (Refusal change) = refl
 job_started c (Outage server) = refl
 job_started c (Update u) = refl

@@ -1,10 +1,12 @@
 pub mod Lists
-pub mod Books
+pub mod Asked
+pub mod Awaited
+pub mod Scans
 pub mod Rows
 pub mod Plans
 pub mod Pools
 pub mod Begun
 pub mod Opening
-pub mod Sweeps
 pub mod Takes
 pub mod Turns
+pub mod Stands

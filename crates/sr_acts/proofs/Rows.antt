@@ -1,11 +1,12 @@
 -- Rows of versions, one for each virtual address.
-use Rattle.std.proofs.Common.{◌≡◌, ℕ, zero, suc, ◌+◌, ◌-◌, ◌<◌, ◌≤◌, Bool, true, false, cond, List, [], ◌∷◌, length, drop, get_or, set, replicate, Option, Some, None, refl, sym, ap, subst, ◌∙◌, arith}
+use Rattle.std.proofs.Common.{◌≡◌, ℕ, zero, suc, ◌+◌, ◌-◌, ◌<◌, ◌≤◌, Bool, true, false, cond, List, [], ◌∷◌, length, get_or, set, replicate, Option, Some, None, refl, sym, ap, subst, ◌∙◌, arith}
 use Rattle.std.specs.List.{AllByRecursion, slice_get}
 use Rattle.std.specs.Prelude.{IfSome}
 use Rattle.std.proofs.lemmas.List.{get_or_past, length-replicate}
 use Rattle.sr_base.specs.Layout.{IsLayout, LayoutView}
 use Rattle.sr_machine.specs.Reads.{steady}
-use Rattle.sr_update.specs.Numbers.{NumberRows, first_number, is_free, least_free, row_of, state_of}
+use Rattle.sr_shadow.specs.declared.entry.Entry.{Entry}
+use Rattle.sr_update.specs.Numbers.{NumberRows, drained_from, first_drained, first_number, is_drained, is_free, least_free, or_after, row_of, state_of}
 use Rattle.sr_update.specs.declared.number_state.NumberState.{NumberState}
 use Rattle.sr_acts.specs.Versions.{FitsVip, HasRows}
 
@@ -50,25 +51,37 @@ least_within l rows vip h within =
     let e : 0 + length (row_of vip rows) ≡ l.shape.versions = omega (arith, wide) in
     subst (λ k. IfSome (least_free vip rows) (λ n. n < k)) e (first_within (λ number. is_free) 0 (row_of vip rows))
 
--- a row from a number on
-dropped : (row : List NumberState) (n : ℕ) (state : NumberState) → slice_get row n ≡ Some state → drop n row ≡ state ∷ drop (n + 1) row
-dropped [] n state h = absurd (cc)
-dropped (s ∷ row) zero state h = let e : s ≡ state = cc in ap (λ x. x ∷ row) e
-dropped (s ∷ row) (suc n) state h = dropped row n state h ∙ (let e : suc (n + 1) ≡ suc n + 1 = omega arith in ap (λ k. state ∷ drop k (s ∷ row)) e)
+-- the first drained one is of the rows
+drained_in : (l : LayoutView) (vip : ℕ) (rows : NumberRows) (es : List Entry) → AllByRecursion (λ row. length row ≡ l.shape.versions) rows
+    → IfSome (drained_from vip rows es) (λ p. (p.0 < vip + length rows) × (p.1 < l.shape.versions))
+drained_in l vip [] es h = tt
+drained_in l vip (row ∷ rows) es h =
+    at (first_number (is_drained vip es) 0 row) (first_within (is_drained vip es) 0 row) (drained_in l (vip + 1) rows es h.1)
+  where
+    weaker : (o : Option (ℕ × ℕ)) → IfSome o (λ p. (p.0 < vip + 1 + length rows) × (p.1 < l.shape.versions))
+        → IfSome o (λ p. (p.0 < vip + suc (length rows)) × (p.1 < l.shape.versions))
+    weaker None a = tt
+    weaker (Some p) a = (omega (arith, a.0), a.1)
 
-number_step : (test : ℕ → NumberState → Bool) (row : List NumberState) (n : ℕ) (state : NumberState) → slice_get row n ≡ Some state
-    → first_number test n (drop n row) ≡ cond (test n state) (Some n) (first_number test (n + 1) (drop (n + 1) row))
-number_step test row n state h = ap (first_number test n) (dropped row n state h)
+    at : (o : Option ℕ) → IfSome o (λ n. n < 0 + length row) → IfSome (drained_from (vip + 1) rows es) (λ p. (p.0 < vip + 1 + length rows) × (p.1 < l.shape.versions))
+        → IfSome (or_after vip o (drained_from (vip + 1) rows es)) (λ p. (p.0 < vip + suc (length rows)) × (p.1 < l.shape.versions))
+    at None w more = weaker (drained_from (vip + 1) rows es) more
+    at (Some n) w more = (omega arith, (let e : 0 + length row ≡ l.shape.versions = omega (arith, h.0) in subst (λ m. n < m) e w))
 
-pub number_found : (test : ℕ → NumberState → Bool) (row : List NumberState) (n : ℕ) (state : NumberState) → slice_get row n ≡ Some state
-    → test n state ≡ true → first_number test n (drop n row) ≡ Some n
-number_found test row n state h t =
-    number_step test row n state h ∙ ap (λ b. cond b (Some n) (first_number test (n + 1) (drop (n + 1) row))) t
+pub drained_vip : (l : LayoutView) (rows : NumberRows) (es : List Entry) → HasRows l rows → IfSome (first_drained rows es) (λ p. p.0 < l.vips)
+drained_vip l rows es h = at (first_drained rows es) (drained_in l 0 rows es h.versions)
+  where
+    at : (o : Option (ℕ × ℕ)) → IfSome o (λ p. (p.0 < 0 + length rows) × (p.1 < l.shape.versions)) → IfSome o (λ p. p.0 < l.vips)
+    at None a = tt
+    at (Some p) a = let e : 0 + length rows ≡ l.vips = omega (arith, h.vips) in subst (λ m. p.0 < m) e a.0
 
-pub number_later : (test : ℕ → NumberState → Bool) (row : List NumberState) (n : ℕ) (state : NumberState) → slice_get row n ≡ Some state
-    → test n state ≡ false → first_number test n (drop n row) ≡ first_number test (n + 1) (drop (n + 1) row)
-number_later test row n state h t =
-    number_step test row n state h ∙ ap (λ b. cond b (Some n) (first_number test (n + 1) (drop (n + 1) row))) t
+pub drained_version : (l : LayoutView) (rows : NumberRows) (es : List Entry) → HasRows l rows
+    → IfSome (first_drained rows es) (λ p. p.1 < l.shape.versions)
+drained_version l rows es h = at (first_drained rows es) (drained_in l 0 rows es h.versions)
+  where
+    at : (o : Option (ℕ × ℕ)) → IfSome o (λ p. (p.0 < 0 + length rows) × (p.1 < l.shape.versions)) → IfSome o (λ p. p.1 < l.shape.versions)
+    at None a = tt
+    at (Some p) a = a.1
 
 -- ---- a state that there isn't
 

@@ -1,10 +1,9 @@
-pub mod Changes
 pub mod Config
 pub mod Fits
-pub mod HeldBook
 pub mod HeldController
 pub mod HeldLines
 pub mod Openers
+pub mod Pending
 pub mod Rooms
 pub mod Versions
 pub mod Starts

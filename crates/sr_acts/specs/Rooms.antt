@@ -1,7 +1,5 @@
 -- The room that the controller's steps take: an entry of the book, a held opener, a server that is down, a line.
-use Rattle.std.specs.Prelude.{ℕ, ◌+◌}
-use Rattle.sr_base.specs.declared.vip_word.Phase.{Phase}
-use Rattle.sr_base.specs.declared.vip_word.Phase.TheVariants.{Steady, Recording, Holding, Transit}
+use Rattle.std.specs.Prelude.{ℕ}
 use Rattle.sr_machine.specs.declared.draw.Draw.{Draw}
 use Rattle.sr_machine.specs.declared.draw.Draw.TheVariants as draw
 use Rattle.sr_machine.specs.declared.job.Job.{Job}

@@ -105,7 +105,7 @@ impl ControllerMachine {
         if self.is_withdrawn(put) {
             0
         } else {
-            let version = version_for(&self.versions, self.book.entries(), put.key);
+            let version = version_for(&self.versions, self.book.ledger(), put.key);
             live_word(self.config.layout(), put.place, put.key, version)
         }
     }

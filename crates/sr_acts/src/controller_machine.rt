@@ -9,6 +9,7 @@ ghost use Rattle.sr_machine.specs.Opening.{opening_controller, opening_line};
 ghost use Rattle.sr_machine.specs.declared.job.Job.TheVariants.{Free};
 ghost use Rattle.sr_acts.specs.Fits.{FitsFirst};
 ghost use Rattle.sr_acts.specs.Rooms.{added};
+ghost use Rattle.sr_standing.specs.Standing.{Standing};
 ghost use Rattle.sr_acts.specs.Starts.{is_free, job_for, start_for};
 ghost use Rattle.sr_machine.specs.Ops.{op_name};
 ghost use Rattle.sr_machine.specs.Starting.{begun, first_act, with_start};
@@ -19,10 +20,12 @@ ghost use Rattle.sr_machine.specs.Telling.{full_change, is_at_leisure, may_refus
 
 use crate::beginning::Beginning;
 use crate::written::Written;
-use crate::{HeldOpeners, MachineConfig, Outages, PlainBook, Versions};
+use crate::{HeldOpeners, MachineConfig, Outages, PlannedBook, Versions};
 use sr_base::{Version, layout_ranges};
 use sr_law::Line;
 use sr_machine::{Draw, Job, Op, PoolUpdate, RingCount, Store};
+use sr_shadow::ledger_rules;
+use sr_standing::standings_are_kept;
 use sr_update::{GiveChange, Updates};
 use std::alloc::{AllocError, Global};
 use std::marker::Model;
@@ -35,7 +38,7 @@ pub struct ControllerMachine {
     pub(crate) updates: Updates,
     pub(crate) outages: Outages,
     pub(crate) refusing: bool,
-    pub(crate) book: PlainBook,
+    pub(crate) book: PlannedBook,
     pub(crate) rings: Vec<RingCount>,
     pub(crate) held: HeldOpeners,
     pub(crate) versions: Versions,
@@ -55,6 +58,7 @@ impl Model for ControllerMachine {
     ghost use Rattle.sr_machine.specs.Deciding.{words_taken};
     ghost use Rattle.sr_acts.specs.Fits.{AreCounted, FitsGive, FitsJob, FitsUpdate};
     ghost use Rattle.sr_acts.specs.HeldController.{HeldController};
+    ghost use Rattle.sr_standing.specs.Standing.{Standing};
 
     ghost Value = { HeldController };
 
@@ -90,7 +94,8 @@ impl Model for ControllerMachine {
         × (length m.rings.items ≡ m.config.layout.shape.pipes)
         × IfSome m.update (FitsUpdate m.config)
         × FitsJob m.config m.job
-        × AreCounted m.drawn (words_taken m.rings.items) m.sweeps m.book.book.taken m.job };
+        × AreCounted m.drawn (words_taken m.rings.items) m.sweeps m.book.book.taken m.job
+        × Standing m.book.book.entries m.job };
 }
 
 impl ControllerMachine {
@@ -107,12 +112,13 @@ impl ControllerMachine {
         let rings = no_words(alloc, layout.shape().pipes)?;
         let versions = Versions::new(alloc, &layout)?;
         let lines = opening_lines(alloc, layout.vips())?;
+        let book = PlannedBook::new(alloc, &layout)?;
         Ok(ControllerMachine {
             config,
             updates,
             outages,
             refusing: false,
-            book: PlainBook::new(alloc, &layout),
+            book,
             rings,
             held: HeldOpeners::new(alloc),
             versions,
@@ -151,6 +157,8 @@ impl ControllerMachine {
         ensures room { self.new.room ≡ self.old.room }
     {
         if is_free(&self.job) {
+            standings_are_kept();
+            ledger_rules(self.book.ledger());
             let act = self.first_act();
             self.start(&act);
         }
@@ -167,6 +175,17 @@ impl ControllerMachine {
         self.begin();
         let job = self.job;
         self.acted(&job, answer);
+        self.look_ahead();
+    }
+
+    // A free controller looks over the pending entries that it hasn't asked yet, so that each is asked once.
+    fn look_ahead(&mut self)
+        ensures { self.new ≡ self.old }
+    {
+        if is_free(&self.job) {
+            let awaiting = self.awaiting_now();
+            self.book.look_ahead(awaiting);
+        }
     }
 
     // The step of this job was made, which had begun.
@@ -199,6 +218,7 @@ impl ControllerMachine {
     fn start(&mut self, act: &Beginning)
         requires free { self.old.view.job ≡ Free }
         requires fits { FitsFirst self.old.config (job_for act.now) }
+        requires stands { Standing self.old.view.book.entries (job_for act.now) }
         ensures config { self.new.config ≡ self.old.config }
         ensures view { self.new.view ≡ with_start self.old.view (start_for self.old.view act.now) }
         ensures room { self.new.room ≡ self.old.room }
@@ -328,7 +348,7 @@ impl ControllerMachine {
         !self.refusing
             && self.update.is_none()
             && is_at_leisure(&self.job)
-            && self.versions.first_drained(self.book.entries()).is_none()
+            && self.versions.first_drained(self.book.ledger()).is_none()
             && self.full_change().is_some()
     }
 

@@ -7,10 +7,11 @@ ghost use Rattle.sr_machine.specs.Stages.{verdict_by};
 ghost use Rattle.sr_acts.specs.Fits.{FitsUpdate};
 
 use crate::ControllerMachine;
+use crate::asking::is_clashing_with;
 use sr_base::{Key, Layout, Place, Version};
 use sr_law::Verdict;
 use sr_machine::{Aim, PoolUpdate, Put, Reply};
-use sr_shadow::{Entry, is_clashing, is_clashing_with, is_registered};
+use sr_shadow::Ledger;
 
 impl ControllerMachine {
     // The server of a key under a version.
@@ -54,7 +55,7 @@ impl ControllerMachine {
             Aim::Held(opener) => {
                 let version = self.versions.learned(opener.key.vip);
                 let server = self.server_for(opener.key, version);
-                let registered = is_registered(self.book.entries(), opener.key);
+                let registered = self.book.ledger().is_registered(opener.key);
                 if !registered && is_down(self.down.as_slice(), server) {
                     Some(Reply {
                         held: *opener,
@@ -74,7 +75,7 @@ impl ControllerMachine {
         requires { HasPlace self.now.config.layout.shape put.now.place }
         ensures { result ≡ is_withdrawn self.now.config self.now.view put.now }
     {
-        is_contested(self.config.layout(), put, self.book.entries())
+        is_contested(self.config.layout(), put, self.book.ledger())
             || self.dead_reply(&put.aim).is_some()
     }
 
@@ -142,14 +143,15 @@ fn verdict_by(down: bool, server: u32, version: Version, pool: u64) -> Verdict
 }
 
 // Whether in the slot that a key is put into another registered key clashes with it; in a move the planned key counts as one.
-fn is_contested(layout: &Layout, put: &Put, entries: &[Entry]) -> bool
-    requires { HasPlace layout.now.shape put.now.place }
-    ensures { result ≡ is_contested layout.now.shape put.now.place put.now.key (rivals_of put.now.aim entries.now) }
+fn is_contested(layout: &Layout, put: &Put, book: &Ledger) -> bool
+    requires place { HasPlace layout.now.shape put.now.place }
+    requires made { book.now.layout ≡ layout.now }
+    ensures { result ≡ is_contested layout.now.shape put.now.place put.now.key (rivals_of put.now.aim book.now.book.entries) }
 {
     match put.place {
         Place::Slot { way, .. } => match &put.aim {
-            Aim::Move { planned, .. } => is_clashing_with(layout, entries, *planned, way, put.key),
-            _ => is_clashing(layout, entries, way, put.key),
+            Aim::Move { planned, .. } => is_clashing_with(book, layout, *planned, way, put.key),
+            _ => book.clashing(way, put.key),
         },
         Place::Row { .. } => false,
     }

@@ -8,15 +8,15 @@ ghost use Rattle.sr_machine.specs.Draws.{answer_line, cleared_job, draw_job, dra
 ghost use Rattle.sr_machine.specs.Jobs.{job_after};
 ghost use Rattle.sr_machine.specs.declared.job.Job.TheVariants as job;
 ghost use Rattle.sr_acts.specs.Fits.{FitsDraw, FitsJob, FitsUpdate, owed, owed_draw};
-ghost use Rattle.sr_acts.specs.HeldBook.{FitsEntry};
+ghost use Rattle.sr_shadow.specs.Ledger.{FitsEntry};
 ghost use Rattle.sr_acts.specs.Rooms.{added_draw};
 
-use crate::asking::placed_from;
 use crate::written::Written;
-use crate::{ControllerMachine, MachineConfig, PlainBook};
+use crate::{ControllerMachine, MachineConfig};
 use sr_base::{Key, Phase, layout_ranges};
 use sr_law::Line;
 use sr_machine::{Draw, Job, PoolUpdate, Reply, Store, Wait, Why};
+use sr_shadow::{Ledger, ledger_rules};
 use sr_update::NumberState;
 
 impl ControllerMachine {
@@ -29,6 +29,7 @@ impl ControllerMachine {
         ensures view { self.new.view ≡ job_after self.old.config self.old.view (job.Draw draw.now) tick }
         ensures room { self.old.room ≤ self.new.room + added_draw draw.now }
     {
+        ledger_rules(self.book.ledger());
         let line = self.draw_line(draw, tick);
         let next = self.draw_job(draw, tick);
         write(&mut self.lines, line);
@@ -156,7 +157,7 @@ impl ControllerMachine {
                 why: Why::Retired(*version),
             }),
             Draw::Answer(_) => Job::Free,
-            Draw::From(ms) => sweeping(&self.config, &self.book, tick, *ms, 0),
+            Draw::From(ms) => sweeping(&self.config, self.book.ledger(), tick, *ms, 0),
             Draw::Swept { .. } => Job::Free,
         }
     }
@@ -240,7 +241,7 @@ fn cleared_job(config: &MachineConfig, key: Key, why: &Why) -> Job
 // A sweep takes the hit of the first placed entry of those taken from a number on, and is over where there is none.
 pub(crate) fn sweeping(
     config: &MachineConfig,
-    book: &PlainBook,
+    book: &Ledger,
     from: u64,
     ms: u64,
     number: u64,
@@ -252,7 +253,7 @@ pub(crate) fn sweeping(
 {
     let _ = config;
     let _taken = book.taken();
-    let Some(entry) = placed_from(book.entries(), number) else {
+    let Some(entry) = book.first_placed(number) else {
         return Job::Draw(Draw::Swept { from, at_ms: ms });
     };
     match entry.place {

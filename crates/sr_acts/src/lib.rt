@@ -1,10 +1,10 @@
 //! The controller of `sr_machine` as code: its next step, and what it knows after each answer, for whoever has words to make the
-//! steps on. Its book is a plain list of entries and its plan the plain one, so its speed is that of a model.
+//! steps on. Nothing that it decides walks the book: it looks at a few entries by the book's indexes, and remembers which pending ones it asked in vain.
 //!
 //! | part | source files | `specs/` |
 //! |---|---|---|
 //! | What a machine is made for | `machine_config` | `Config` |
-//! | The book: entries, what becomes of them, what is asked of them | `plain_book`, `entry_change`, `asking` | `HeldBook`, `Changes` |
+//! | The book: how far its pending entries were asked, what is asked of it | `planned_book`, `awaiting`, `asking` | `Pending` |
 //! | Versions: their states, the pools that they name, the words of virtual addresses | `versions`, `named_row` | `Versions` |
 //! | Queues: held openers, servers to be taken down, lines | `held_openers`, `outages`, `written` | `Openers`, `HeldLines` |
 //! | The controller: it is told, begins, makes a step | `controller_machine` | `HeldController` |
@@ -16,16 +16,16 @@
 
 mod acting;
 mod asking;
+mod awaiting;
 mod beginning;
 mod controller_machine;
 mod deciding;
 mod drawing;
-mod entry_change;
 mod held_openers;
 mod machine_config;
 mod named_row;
 mod outages;
-mod plain_book;
+mod planned_book;
 mod starting;
 mod storing;
 mod taking;
@@ -39,5 +39,5 @@ pub use controller_machine::ControllerMachine;
 pub use held_openers::HeldOpeners;
 pub use machine_config::MachineConfig;
 pub use outages::Outages;
-pub use plain_book::PlainBook;
+pub use planned_book::PlannedBook;
 pub use versions::Versions;

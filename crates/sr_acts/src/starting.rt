@@ -10,9 +10,8 @@ ghost use Rattle.sr_acts.specs.Fits.{FitsFirst, FitsGive, FitsUpdate};
 ghost use Rattle.sr_acts.specs.Starts.{job_for, start_for};
 
 use crate::ControllerMachine;
-use crate::asking::{
-    entry_for, first_before_finish, first_before_hold, first_put, first_retirable, planned_put,
-};
+use crate::asking::entry_for;
+use crate::awaiting::Awaiting;
 use crate::beginning::Beginning;
 use crate::controller_machine::has_come;
 use sr_base::{Phase, Version, layout_ranges};
@@ -106,11 +105,14 @@ impl ControllerMachine {
         ensures value { result ≡ going_on self.now.view update.now (vip_at self.now.view.vips update.now.vip).phase }
         ensures fits { IfSome result (FitsFirst self.now.config) }
     {
-        let entries = self.book.entries();
         let word = self.versions.vip(update.vip);
         match word.phase {
             Phase::Recording => {
-                if first_before_hold(entries, update.vip, self.mark).is_none() {
+                let awaiting = Awaiting::BeforeHold {
+                    vip: update.vip,
+                    mark: self.mark,
+                };
+                if self.book.first_awaited(&awaiting).is_none() {
                     Some(Job::Draw(Draw::Comes {
                         update: *update,
                         phase: Phase::Holding,
@@ -120,7 +122,11 @@ impl ControllerMachine {
                 }
             }
             Phase::Transit => {
-                if first_before_finish(entries, update.vip, update.replaced).is_none() {
+                let awaiting = Awaiting::BeforeFinish {
+                    vip: update.vip,
+                    replaced: update.replaced,
+                };
+                if self.book.first_awaited(&awaiting).is_none() {
                     Some(Job::Store(Store::Vip {
                         update: *update,
                         phase: Phase::Steady,
@@ -188,19 +194,13 @@ impl ControllerMachine {
             (planned_put self.now.config.layout.shape self.now.view.book.entries opener.now.key (aim.Held opener.now)) }
         ensures fits { FitsFirst self.now.config result }
     {
-        let entries = self.book.entries();
-        if let Some(entry) = entry_for(entries, opener.key) {
+        if let Some(entry) = entry_for(self.book.ledger(), opener.key) {
             return Job::Draw(Draw::Answer(Reply {
                 held: *opener,
                 version: Some(entry.version),
             }));
         }
-        match planned_put(
-            self.config.layout(),
-            entries,
-            opener.key,
-            &Aim::Held(*opener),
-        ) {
+        match self.book.planned_put(opener.key, &Aim::Held(*opener)) {
             Some(put) => Job::Draw(Draw::Reserved(put)),
             None => Job::Draw(Draw::Answer(Reply {
                 held: *opener,
@@ -214,7 +214,7 @@ impl ControllerMachine {
         ensures value { option_map (start_for self.now.view) result ≡ pending_act self.now.config self.now.view }
         ensures fits { IfSome result (λ b. FitsFirst self.now.config (job_for b)) }
     {
-        match first_put(self.config.layout(), self.book.entries()) {
+        match self.book.first_put() {
             Some(put) => Some(Beginning::Just(Job::Draw(Draw::Reserved(put)))),
             None => None,
         }
@@ -225,8 +225,7 @@ impl ControllerMachine {
         ensures value { option_map (start_for self.now.view) result ≡ retire_act self.now.config self.now.view }
         ensures fits { IfSome result (λ b. FitsFirst self.now.config (job_for b)) }
     {
-        let layout = self.config.layout();
-        let entry = first_retirable(self.book.entries(), layout.shape().lives)?;
+        let entry = self.book.ledger().first_retirable()?;
         let place = entry.place?;
         Some(Beginning::Just(Job::Draw(Draw::Retired {
             key: entry.key,
@@ -258,7 +257,7 @@ impl ControllerMachine {
         ensures value { option_map (start_for self.now.view) result ≡ release_act self.now.view }
         ensures fits { IfSome result (λ b. FitsFirst self.now.config (job_for b)) }
     {
-        match self.versions.first_drained(self.book.entries()) {
+        match self.versions.first_drained(self.book.ledger()) {
             Some((vip, version)) => {
                 Some(Beginning::Just(Job::Draw(Draw::Grace(Wait::Release { vip, version }))))
             }

@@ -14,6 +14,8 @@ use crate::asking::version_for;
 use crate::versions::phase_word;
 use sr_base::{Layout, Phase, layout_ranges};
 use sr_machine::{Draw, Job, PoolUpdate, Put, Store, Wait, Why};
+use sr_shadow::ledger_rules;
+use sr_standing::jobs_may_change;
 use sr_update::NumberState;
 
 impl ControllerMachine {
@@ -25,6 +27,7 @@ impl ControllerMachine {
         ensures view { (x : ℕ) → self.new.view ≡ job_after self.old.config self.old.view (job.Store store.now) x }
         ensures room { self.old.room ≤ self.new.room + added_store store.now }
     {
+        ledger_rules(self.book.ledger());
         match store {
             Store::Down(_) => {
                 self.job = Job::Free;
@@ -85,6 +88,7 @@ impl ControllerMachine {
         ensures room { self.new.room ≡ self.old.room }
     {
         layout_ranges(self.config.layout());
+        ledger_rules(self.book.ledger());
         if is_last_filter(self.config.layout(), index) {
             self.versions
                 .set(update.vip, update.replaced, NumberState::Draining);
@@ -106,6 +110,7 @@ impl ControllerMachine {
         ensures view { (x : ℕ) → self.new.view ≡ job_after self.old.config self.old.view (job.Store (store.Judge put.now)) x }
         ensures room { self.old.room ≤ self.new.room + 1 }
     {
+        ledger_rules(self.book.ledger());
         if self.is_withdrawn(put) {
             let reply = self.dead_reply(&put.aim);
             self.job = Job::Draw(Draw::Cleared {
@@ -114,7 +119,8 @@ impl ControllerMachine {
                 why: Why::Withdrawn(reply),
             });
         } else {
-            let version = version_for(&self.versions, self.book.entries(), put.key);
+            let version = version_for(&self.versions, self.book.ledger(), put.key);
+            jobs_may_change();
             self.book.take(put.key, version);
             self.book.settle(put.key, put.place);
             self.job = Job::Draw(Draw::Placed(*put));

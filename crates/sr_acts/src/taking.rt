@@ -2,10 +2,11 @@
 
 ghost use Rattle.std.specs.Prelude.{◌≡◌, ◌+◌, ◌^◌, ◌<◌, ◌≤◌, true};
 ghost use Rattle.sr_machine.specs.Deciding.{in_bounds};
+ghost use Rattle.sr_standing.specs.Standing.{Standing};
 ghost use Rattle.sr_machine.specs.Taking.{book_after, book_by, count_after, held_after, holds_opener, is_ended, is_punt, taking};
 
 use crate::words::read_report;
-use crate::{ControllerMachine, HeldOpeners, PlainBook, Versions};
+use crate::{ControllerMachine, HeldOpeners, PlannedBook, Versions};
 use sr_base::{Key, RingKind, RingWord};
 use sr_machine::{HeldOpener, RingCount};
 
@@ -16,6 +17,7 @@ impl ControllerMachine {
         requires pipe { pipe < self.old.config.layout.shape.pipes }
         requires bounds { in_bounds self.old.view ≡ true }
         requires room { 0 < self.old.room }
+        requires stands { Standing (taking self.old.config self.old.view ended pipe x).book.entries self.old.view.job }
         ensures config { self.new.config ≡ self.old.config }
         ensures view { self.new.view ≡ record self.old.view {
           rings = (taking self.old.config self.old.view ended pipe x).rings;
@@ -95,7 +97,7 @@ fn is_ended(key: Key, ended: Option<Key>) -> bool
 
 // A learned key is registered; a registered key whose connection ended is marked so.
 fn register(
-    book: &mut PlainBook,
+    book: &mut PlannedBook,
     versions: &Versions,
     ended: Option<Key>,
     report: &Option<RingWord>,

@@ -9,9 +9,10 @@ ghost use Rattle.sr_machine.specs.Starting.{begun};
 ghost use Rattle.sr_machine.specs.Deciding.{vip_at};
 ghost use Rattle.sr_machine.specs.Turning.{cleared_act, drain_act, draw_act, grace_act, live_act, rest_of, store_act, turn_at};
 ghost use Rattle.sr_acts.specs.Fits.{FitsJob};
+ghost use Rattle.sr_acts.specs.Pending.{awaiting_by, awaiting_in};
 
 use crate::ControllerMachine;
-use crate::asking::{first_before_finish, first_before_hold, first_pending};
+use crate::awaiting::Awaiting;
 use crate::controller_machine::is_free;
 use crate::waiting::{has_next, is_under_way, is_wait_done};
 use sr_base::{Key, Phase};
@@ -41,14 +42,38 @@ impl ControllerMachine {
     }
 
     // The entry for which an update waits.
+    #[tactic(auto, using(crate::proofs::Awaited::awaited_is))]
     fn awaited_by(&self, update: &PoolUpdate) -> Option<Entry>
         ensures { result ≡ awaited_in self.now.view update.now (vip_at self.now.view.vips update.now.vip).phase }
     {
-        let entries = self.book.entries();
+        let awaiting = self.awaiting(update)?;
+        self.book.first_awaited(&awaiting)
+    }
+
+    // What the update that is under way is waiting for.
+    pub(crate) fn awaiting_now(&self) -> Option<Awaiting>
+        ensures { result ≡ awaiting_by self.now.view.update self.now.view.mark self.now.view.vips }
+    {
+        match &self.update {
+            Some(update) => self.awaiting(update),
+            None => None,
+        }
+    }
+
+    // What an update is waiting for, in a placing.
+    pub(crate) fn awaiting(&self, update: &PoolUpdate) -> Option<Awaiting>
+        ensures { result ≡ awaiting_in update.now self.now.view.mark (vip_at self.now.view.vips update.now.vip).phase }
+    {
         let word = self.versions.vip(update.vip);
         match word.phase {
-            Phase::Recording => first_before_hold(entries, update.vip, self.mark),
-            Phase::Transit => first_before_finish(entries, update.vip, update.replaced),
+            Phase::Recording => Some(Awaiting::BeforeHold {
+                vip: update.vip,
+                mark: self.mark,
+            }),
+            Phase::Transit => Some(Awaiting::BeforeFinish {
+                vip: update.vip,
+                replaced: update.replaced,
+            }),
             _ => None,
         }
     }
@@ -84,7 +109,7 @@ impl ControllerMachine {
     fn rest(&self) -> Turn
         ensures { result ≡ rest_of self.now.view }
     {
-        if let Some(entry) = first_pending(self.book.entries()) {
+        if let Some(entry) = self.book.ledger().first_pending(0) {
             return Turn::NoRoom { key: entry.key };
         }
         match self.full_change() {

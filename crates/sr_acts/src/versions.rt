@@ -11,7 +11,7 @@ ghost use Rattle.sr_acts.specs.Versions.{FitsVip};
 use crate::named_row::NamedRow;
 use sr_base::{Layout, Phase, Version, VipWord, layout_ranges};
 use sr_machine::PoolUpdate;
-use sr_shadow::Entry;
+use sr_shadow::{Entry, Ledger};
 use sr_update::{NumberState, Numbers};
 use std::alloc::{AllocError, Global};
 use std::marker::Model;
@@ -122,35 +122,13 @@ impl Versions {
     }
 
     /// The first version that drains and that no entry has.
-    pub fn first_drained(&self, entries: &[Entry]) -> Option<(u8, Version)>
-        ensures value { result ≡ first_drained self.now.numbers entries.now }
+    #[tactic(auto, using(crate::proofs::Rows::drained_vip, crate::proofs::Rows::drained_version))]
+    pub fn first_drained(&self, book: &Ledger) -> Option<(u8, Version)>
+        ensures value { result ≡ first_drained self.now.numbers book.now.book.entries }
         ensures vip { IfSome result (λ p. p.0 < self.now.layout.vips) }
         ensures version { IfSome result (λ p. p.1 < self.now.layout.shape.versions) }
     {
-        for vip in 0..self.layout.vips() {
-            if let Some(version) = self.drained_of(vip, entries) {
-                return Some((vip, version));
-            }
-        }
-        None
-    }
-
-    // The first one of a virtual address.
-    #[tactic(auto, using(crate::proofs::Rows::number_found, crate::proofs::Rows::number_later))]
-    fn drained_of(&self, vip: u8, entries: &[Entry]) -> Option<Version>
-        requires { vip < self.now.layout.vips }
-        ensures value { result ≡ first_number (is_drained vip entries.now) 0 (row_of vip self.now.numbers) }
-        ensures within { IfSome result (λ version. version < self.now.layout.shape.versions) }
-    {
-        layout_ranges(&self.layout);
-        for n in 0..self.layout.shape().versions {
-            let version = version_of(n);
-            let state = self.numbers.state(vip, version);
-            if is_drained(entries, vip, version, state) {
-                return Some(version);
-            }
-        }
-        None
+        self.numbers.first_drained(book.indexed())
     }
 
     /// A version has another state.
@@ -209,36 +187,6 @@ pub(crate) fn phase_word(update: &PoolUpdate, phase: Phase) -> VipWord
             next: update.given,
         },
     }
-}
-
-// The version of a number below 64.
-fn version_of(n: u8) -> Version
-    requires { n < 64 }
-    ensures { result ≡ n }
-{
-    match Version::new(n) {
-        Some(version) => version,
-        None => unreachable!(),
-    }
-}
-
-// Whether a version in this state drains, and no entry has it.
-fn is_drained(entries: &[Entry], vip: u8, version: Version, state: NumberState) -> bool
-    ensures { result ≡ is_drained vip entries.now version state }
-{
-    matches!(state, NumberState::Draining) && is_unused(entries, vip, version)
-}
-
-// Whether no entry has this virtual address and version.
-fn is_unused(entries: &[Entry], vip: u8, version: Version) -> bool
-    ensures { result ≡ (count_of vip version entries.now == 0) }
-{
-    for entry in entries {
-        if has_version(vip, version, entry) {
-            return false;
-        }
-    }
-    true
 }
 
 // Whether an entry has this virtual address and version.

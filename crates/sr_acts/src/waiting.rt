@@ -3,7 +3,7 @@
 ghost use Rattle.std.specs.Prelude.{◌≡◌, ℕ, ◌+◌, ◌^◌, ◌<◌, ◌≤◌, Option, Some, None, true};
 ghost use Rattle.sr_base.specs.declared.vip_word.VipWord.{VipWord as AWord};
 ghost use Rattle.sr_machine.specs.Deciding.{in_bounds};
-ghost use Rattle.sr_machine.specs.Jobs.{job_after};
+ghost use Rattle.sr_machine.specs.Jobs.{job_after, marked, released};
 ghost use Rattle.sr_machine.specs.Taking.{ended_by};
 ghost use Rattle.sr_machine.specs.Waiting.{all_passed, drain_job, has_next, is_ring_done, is_under_way, is_wait_done, live_job, look_job, next_pass, next_ring, pass_job, passed_phase, waited_job, waited_phase};
 ghost use Rattle.sr_machine.specs.declared.job.Job.TheVariants as job;
@@ -15,7 +15,8 @@ use crate::words::read_flag;
 use crate::{ControllerMachine, MachineConfig, Versions};
 use sr_base::{Key, Layout, Phase, Place, layout_ranges};
 use sr_machine::{Aim, Draw, Job, PoolUpdate, Put, Reply, Store, Wait, Why};
-use sr_shadow::Entry;
+use sr_shadow::{Ledger, ledger_rules};
+use sr_standing::standings_are_kept;
 use sr_update::NumberState;
 
 impl ControllerMachine {
@@ -26,6 +27,7 @@ impl ControllerMachine {
         ensures view { self.new.view ≡ job_after self.old.config self.old.view (job.Pass grace pipe wait.now) x }
         ensures room { self.new.room ≡ self.old.room }
     {
+        ledger_rules(self.book.ledger());
         self.job = pass_job(&self.config, grace, pipe, wait, x);
     }
 
@@ -38,38 +40,23 @@ impl ControllerMachine {
         ensures view { self.new.view ≡ job_after self.old.config self.old.view (job.Drain pipe count wait.now) x }
         ensures room { self.old.room ≤ self.new.room + 1 }
     {
-        let _ = &self.job;
+        standings_are_kept();
+        ledger_rules(self.book.ledger());
         self.take(ended_by(wait), pipe, x);
-        self.job = drain_job(
+        let next = drain_job(
             &self.config,
             &self.versions,
-            self.book.entries(),
+            self.book.ledger(),
             pipe,
             count,
             wait,
             x,
         );
         let done = is_wait_done(self.config.layout(), pipe, count, x);
-        match wait {
-            Wait::Judge(_) => {}
-            Wait::Live(_) => {}
-            Wait::Retire(_) => {}
-            Wait::Comes { phase, .. } => match phase {
-                Phase::Recording => {
-                    if done {
-                        self.mark = self.book.taken();
-                    }
-                }
-                Phase::Steady => {}
-                Phase::Holding => {}
-                Phase::Transit => {}
-            },
-            Wait::Release { vip, version } => {
-                if done {
-                    self.versions.set(*vip, *version, NumberState::Free);
-                }
-            }
-        }
+        let mark = marked(done, wait, self.book.ledger().taken(), self.mark);
+        release(&self.config, &mut self.versions, done, wait);
+        self.mark = mark;
+        self.job = next;
     }
 
     // A ring's cell was swapped, as nothing else was to be done.
@@ -81,7 +68,8 @@ impl ControllerMachine {
         ensures view { self.new.view ≡ job_after self.old.config self.old.view (job.Look pipe) x }
         ensures room { self.old.room ≤ self.new.room + 1 }
     {
-        let _ = &self.job;
+        standings_are_kept();
+        ledger_rules(self.book.ledger());
         self.take(None, pipe, x);
         self.job = look_job(&self.config, pipe, x);
     }
@@ -91,10 +79,11 @@ impl ControllerMachine {
         requires job { self.old.view.job ≡ job.Hit from ms key place taken }
         ensures config { self.new.config ≡ self.old.config }
         ensures view { self.new.view ≡ job_after self.old.config self.old.view (job.Hit from ms key place taken) x }
-        ensures room { self.new.room ≡ self.old.room }
+        ensures room { self.old.room ≤ self.new.room }
     {
+        ledger_rules(self.book.ledger());
         self.book.sweep(key, read_flag(x));
-        self.job = sweeping(&self.config, &self.book, from, ms, taken + 1);
+        self.job = sweeping(&self.config, self.book.ledger(), from, ms, taken + 1);
     }
 }
 
@@ -208,6 +197,44 @@ pub(crate) fn is_wait_done(layout: &Layout, pipe: u8, count: u32, x: u64) -> boo
     is_ring_done(layout, count, x) && !has_next(layout, pipe)
 }
 
+// The mark, which the end of an update's first drain sets.
+fn marked(done: bool, wait: &Wait, taken: u64, mark: u64) -> u64
+    ensures { result ≡ marked done wait.now taken mark }
+{
+    match wait {
+        Wait::Comes { phase, .. } => match phase {
+            Phase::Recording => { if done { taken } else { mark } }
+            Phase::Steady => mark,
+            Phase::Holding => mark,
+            Phase::Transit => mark,
+        },
+        Wait::Judge(_) => mark,
+        Wait::Live(_) => mark,
+        Wait::Retire(_) => mark,
+        Wait::Release { .. } => mark,
+    }
+}
+
+// A number that was waited for is free.
+fn release(config: &MachineConfig, versions: &mut Versions, done: bool, wait: &Wait)
+    requires fits { FitsWait config.now wait.now }
+    requires made { versions.old.layout ≡ config.now.layout }
+    ensures { versions.new ≡ record versions.old { numbers = released done wait.now versions.old.numbers } }
+{
+    let _ = config;
+    match wait {
+        Wait::Release { vip, version } => {
+            if done {
+                versions.set(*vip, *version, NumberState::Free);
+            }
+        }
+        Wait::Judge(_) => {}
+        Wait::Live(_) => {}
+        Wait::Retire(_) => {}
+        Wait::Comes { .. } => {}
+    }
+}
+
 // The key whose retirement a wait is for.
 fn ended_by(wait: &Wait) -> Option<Key>
     ensures { (pipe count : ℕ) → result ≡ ended_by (job.Drain pipe count wait.now) }
@@ -222,7 +249,7 @@ fn ended_by(wait: &Wait) -> Option<Key>
 fn drain_job(
     config: &MachineConfig,
     versions: &Versions,
-    entries: &[Entry],
+    book: &Ledger,
     pipe: u8,
     count: u32,
     wait: &Wait,
@@ -231,7 +258,7 @@ fn drain_job(
     requires pipe { pipe < config.now.layout.shape.pipes }
     requires count { count < config.now.layout.shape.ring }
     requires wait { FitsWait config.now wait.now }
-    ensures value { result ≡ drain_job config.now.layout versions.now.vips entries.now pipe count wait.now x }
+    ensures value { result ≡ drain_job config.now.layout versions.now.vips book.now.book.entries pipe count wait.now x }
     ensures fits { FitsJob config.now result }
     ensures owed { owed result ≤ owed_wait wait.now }
 {
@@ -250,19 +277,19 @@ fn drain_job(
             wait: *wait,
         };
     }
-    waited_job(config, versions, entries, wait)
+    waited_job(config, versions, book, wait)
 }
 
 // What a wait was for.
-fn waited_job(config: &MachineConfig, versions: &Versions, entries: &[Entry], wait: &Wait) -> Job
+fn waited_job(config: &MachineConfig, versions: &Versions, book: &Ledger, wait: &Wait) -> Job
     requires { FitsWait config.now wait.now }
-    ensures value { result ≡ waited_job versions.now.vips entries.now wait.now }
+    ensures value { result ≡ waited_job versions.now.vips book.now.book.entries wait.now }
     ensures fits { FitsJob config.now result }
     ensures owed { owed result ≤ owed_wait wait.now }
 {
     match wait {
         Wait::Judge(put) => Job::Store(Store::Judge(*put)),
-        Wait::Live(put) => live_job(config, versions, entries, put),
+        Wait::Live(put) => live_job(config, versions, book, put),
         Wait::Retire(_) => Job::Free,
         Wait::Comes { update, phase } => waited_phase(config, update, *phase),
         Wait::Release { .. } => Job::Free,
@@ -270,9 +297,9 @@ fn waited_job(config: &MachineConfig, versions: &Versions, entries: &[Entry], wa
 }
 
 // A key's entry has become live.
-fn live_job(config: &MachineConfig, versions: &Versions, entries: &[Entry], put: &Put) -> Job
+fn live_job(config: &MachineConfig, versions: &Versions, book: &Ledger, put: &Put) -> Job
     requires { FitsPut config.now.layout.shape put.now }
-    ensures value { result ≡ live_job versions.now.vips entries.now put.now put.now.aim }
+    ensures value { result ≡ live_job versions.now.vips book.now.book.entries put.now put.now.aim }
     ensures fits { FitsJob config.now result }
     ensures owed { owed result ≡ 0 }
 {
@@ -281,7 +308,7 @@ fn live_job(config: &MachineConfig, versions: &Versions, entries: &[Entry], put:
         Aim::Pending => Job::Free,
         Aim::Held(opener) => Job::Draw(Draw::Answer(Reply {
             held: *opener,
-            version: Some(version_for(versions, entries, put.key)),
+            version: Some(version_for(versions, book, put.key)),
         })),
         Aim::Move { from, .. } => Job::Store(Store::Empty {
             key: put.key,

@@ -9,7 +9,7 @@ ghost use Rattle.sr_update.specs.declared.number_state.NumberState.TheVariants.{
 use crate::row::Row;
 use crate::{NumberState, Passed, Recording, Update};
 use sr_base::{Layout, Version, layout_ranges};
-use sr_shadow::Shadow;
+use sr_shadow::{IndexedBook, Shadow};
 use std::alloc::{AllocError, Global};
 use std::marker::Model;
 
@@ -83,11 +83,11 @@ impl Numbers {
 
     /// The first Draining number, by virtual address and number, that no registered key has. The Draining numbers
     /// alone are looked at.
-    pub fn first_drained(&self, shadow: &Shadow) -> Option<(u8, Version)>
-        ensures { result ≡ first_drained self.now shadow.now.book.entries }
+    pub fn first_drained(&self, book: &IndexedBook) -> Option<(u8, Version)>
+        ensures { result ≡ first_drained self.now book.now.book.entries }
     {
         for vip in 0..self.rows.len() {
-            if let Some(n) = self.rows[vip].drained(vip as u8, shadow) {
+            if let Some(n) = self.rows[vip].drained(vip as u8, book) {
                 return Some((vip as u8, version_of(n)));
             }
         }

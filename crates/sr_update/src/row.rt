@@ -7,7 +7,7 @@ use crate::NumberState;
 use crate::number_set::{first_from, numbers_below, with_number};
 use crate::number_state::{is_current, is_draining, is_free};
 use sr_base::Version;
-use sr_shadow::Shadow;
+use sr_shadow::IndexedBook;
 use std::marker::Model;
 
 // The numbers of a virtual address, each with its state, and beside them the Free and the Draining ones as the bits of
@@ -91,13 +91,13 @@ impl Row {
 
     // The least Draining number that no registered key has, where this is the row of a virtual address. The Draining
     // ones alone are looked at.
-    pub(crate) fn drained(&self, vip: u8, shadow: &Shadow) -> Option<u8>
-        ensures value { result ≡ first_number (is_drained vip shadow.now.book.entries) 0 self.now }
+    pub(crate) fn drained(&self, vip: u8, book: &IndexedBook) -> Option<u8>
+        ensures value { result ≡ first_number (is_drained vip book.now.book.entries) 0 self.now }
         ensures within { IfSome result (λ n. n < 64) }
     {
         let mut from = 0;
         while let Some(n) = first_from(self.draining, from) {
-            if is_unused(shadow, vip, n) {
+            if is_unused(book, vip, n) {
                 return Some(n);
             }
             from = n + 1;
@@ -107,12 +107,12 @@ impl Row {
 }
 
 // Whether no registered key has this virtual address and number.
-fn is_unused(shadow: &Shadow, vip: u8, n: u8) -> bool
+fn is_unused(book: &IndexedBook, vip: u8, n: u8) -> bool
     requires { n < 64 }
-    ensures { result ≡ (count_of vip n shadow.now.book.entries == 0) }
+    ensures { result ≡ (count_of vip n book.now.book.entries == 0) }
 {
     match Version::new(n) {
-        Some(version) => shadow.count(vip, version) == 0,
+        Some(version) => book.count(vip, version) == 0,
         None => unreachable!(),
     }
 }

@@ -227,7 +227,7 @@ fn dropped(
     (
         full,
         refuse_second(updates, numbers),
-        numbers.first_drained(book),
+        numbers.first_drained(book.indexed()),
     )
 }
 

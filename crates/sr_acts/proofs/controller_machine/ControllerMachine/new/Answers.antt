@@ -1,4 +1,6 @@
-use Rattle.std.proofs.Common.{◌∙◌, ap, map, replicate}
+use Rattle.std.proofs.Common.{◌∙◌, ap, map, replicate, subst, sym}
+use Rattle.sr_machine.specs.declared.job.Job.TheVariants.{Free}
+use Rattle.sr_standing.specs.Standing.{Standing}
 use Rattle.std.specs.List.{range_with_len}
 use Rattle.sr_base.specs.Layout.{LayoutView}
 use Rattle.sr_base.specs.declared.shape.Shape.{Shape}
@@ -12,12 +14,21 @@ use Rattle.sr_acts.proofs.controller_machine.ControllerMachine.new.Goals as goal
 
 pub invariant_of-result : goal.invariant_of-result
 invariant_of-result c =
-    let p = opened c.args.config c.fits.ensures c.in_ok-updates.updates.gives c.in_ok-outages.outages c.in_ok-rings.rings.items c.new-4.result.book.taken
+    let p = opened c.args.config c.fits.ensures c.in_ok-updates.updates.gives c.in_ok-outages.outages c.in_ok-rings.rings.items c.in_ok-book.book.book.taken
     (ap (λ (u : UpdatesView). u.gives) c.in_ok-updates.ensures ∙ ap (gives_after _) c.changes.ensures)
     (c.in_ok-outages.ensures ∙ ap outages_in c.changes-2.ensures)
     (c.in_ok-rings.ensures ∙ ap (λ (s : Shape). fresh_rings s.pipes) c.shape.ensures ∙ ap (λ (l : LayoutView). fresh_rings l.shape.pipes) c.layout.ensures)
-    (ap (λ (b : Book). b.taken) c.new-4.ensures.book) in
-    (c.new-4.ensures.layout ∙ c.layout.ensures, c.in_ok-versions.ensures.layout ∙ c.layout.ensures, p.0, p.1, p.2, p.3, p.4, p.5)
+    (ap (λ (b : Book). b.taken) c.in_ok-book.ensures.book) in (
+      c.in_ok-book.ensures.layout ∙ c.layout.ensures,
+      c.in_ok-versions.ensures.layout ∙ c.layout.ensures,
+      p.0,
+      p.1,
+      p.2,
+      p.3,
+      p.4,
+      p.5,
+      subst (λ (b : Book). Standing b.entries Free) (sym c.in_ok-book.ensures.book) (record { also = tt; put = tt; live = tt; hit = tt }),
+    )
 
 pub returns-clause-view : goal.returns-clause-view
 returns-clause-view c =
@@ -25,7 +36,7 @@ returns-clause-view c =
     (ap (λ (u : UpdatesView). u.gives) c.in_ok-updates.ensures ∙ ap (gives_after _) c.changes.ensures)
     (c.in_ok-outages.ensures ∙ ap outages_in c.changes-2.ensures)
     (ap (λ (u : UpdatesView). u.clock) c.in_ok-updates.ensures)
-    c.new-4.ensures.book
+    c.in_ok-book.ensures.book
     (c.in_ok-rings.ensures ∙ ap (λ (s : Shape). fresh_rings s.pipes) c.shape.ensures ∙ ap (λ (l : LayoutView). fresh_rings l.shape.pipes) c.layout.ensures)
     c.new-5.ensures
     (c.in_ok-versions.ensures.numbers ∙ ap opening_rows c.layout.ensures)
