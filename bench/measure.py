@@ -1,14 +1,15 @@
 #!/usr/bin/env python3
 """Times the commands that exist on captures of 200,000 and 4,194,304 packets, and writes RESULTS.md beside this file.
 
-Usage: measure.py PROGRAM [BOOK [PIPE]]. PROGRAM is the built program (crates/silkroad/out/silkroad). BOOK is the built program of book_main.txt, which
-takes keys into the controller's book and retires them: put it as src/main.rt into a crate `book`, with the line `book: sr_shadow sr_base` in a
-copy of crates.txt, and `rt run` it there. PIPE is that of pipe_main.txt, which handles packets over plain words: a crate `pipe_bench` with the files of pipe_proofs.txt
-and the line `pipe_bench: sr_scripted sr_script sr_plain sr_pipe sr_core sr_acts sr_machine sr_law sr_hash sr_base sr_io`. Each figure is the best of five runs, of `tcpdump` one, over the smaller capture alone. It is no test.
+Usage: measure.py PROGRAM [BOOK [PIPE]]. PROGRAM is the built program (crates/silkroad/out/silkroad). BOOK is the built program of book_main.txt, to
+whose controller's book keys come: put it as src/main.rt into a crate `book` with the file of book_proofs.txt, and the line
+`book: sr_plan sr_shadow sr_hash sr_base` in a copy of crates.txt, and `rt run` it there. PIPE is that of pipe_main.txt, which handles packets over plain words: a crate `pipe_bench` with the files of pipe_proofs.txt
+and the line `pipe_bench: sr_scripted sr_script sr_plain sr_pipe sr_core sr_acts sr_machine sr_law sr_hash sr_base sr_io`. Each figure is the best of five runs, of `tcpdump` one, over the smaller capture alone, and of the book the median of fifteen. It is no test.
 """
 import os
 import platform
 import shutil
+import statistics
 import struct
 import subprocess
 import sys
@@ -116,20 +117,32 @@ def audits(program, folder):
 
 
 def books(program):
-    """Rows of the book: so many keys are taken, and retired in the order of taking."""
-    for keys in (100_000, 400_000):
-        seconds, peak = best([program, str(keys)], os.devnull)
-        yield row("the book: take, then retire", keys, seconds, peak)
+    """Rows of the book, each without what comes before it: so many keys come, and are planned, settled, swept ten times or retired. For the
+    smaller number there are places enough."""
+
+    def asked(word, keys):
+        return spent([program, word, str(keys)], 15, statistics.median)
+
+    for keys in (40_000, 300_000):
+        taken, peak = asked("take", keys)
+        yield row("the book: take", keys, taken, peak)
+        settled, peak = asked("settle", keys)
+        yield row("the book: plan, and settle where there is a place", keys, settled - taken, peak)
+        if keys == 40_000:
+            swept, peak = asked("sweep", keys)
+            yield row("the book: sweep", 10 * keys, swept - settled, peak)
+        retired, peak = asked("retire", keys)
+        yield row("the book: retire", keys, retired - settled, peak)
 
 
-def spent(command, runs=5):
-    """The least processor time in seconds of so many runs, and the peak memory in bytes of the last."""
+def spent(command, runs=5, pick=min):
+    """The least processor time in seconds of so many runs, or another pick, and the peak memory in bytes of the last."""
     times = []
     for _ in range(runs):
         child = subprocess.Popen(command, stdin=subprocess.DEVNULL, stdout=subprocess.DEVNULL)
         _, _, usage = os.wait4(child.pid, 0)
         times.append(usage.ru_utime + usage.ru_stime)
-    return min(times), usage.ru_maxrss * 1024
+    return pick(times), usage.ru_maxrss * 1024
 
 
 def pipes(program):
@@ -178,7 +191,7 @@ def main():
     cores = os.cpu_count()
     text = (
         "# Measurements\n\n"
-        f"Best of five (`tcpdump`: one run), standard input a file, standard output dropped. A peak of 14 MB is the measuring script's own floor."
+        f"Best of five (`tcpdump`: one run; the book: median of fifteen), standard input a file, standard output dropped. A peak of 14 MB is the measuring script's own floor."
         f" {platform.system()} {platform.machine()}, {cores} processors.\n\n"
         "| command | packets, lines or keys | seconds | millions of them per second | peak memory, MB | bytes for each |\n"
         "|---|---|---|---|---|---|\n" + "\n".join(rows) + "\n\n"
