@@ -1,0 +1,5 @@
+pub mod Counted
+pub mod Judged
+pub mod Parsed
+pub mod Reading
+pub mod Shown

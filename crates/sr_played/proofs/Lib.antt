@@ -1,0 +1,4 @@
+pub mod FrameVips
+pub mod Playing
+pub mod Rarely
+pub mod Taking
