@@ -1,7 +1,6 @@
 pub mod Answers
 pub mod Audit
 pub mod Connections
-pub mod Counts
 pub mod Downs
 pub mod Greatest
 pub mod HeldCounts

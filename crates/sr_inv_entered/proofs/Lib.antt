@@ -2,5 +2,5 @@ pub mod Ending
 pub mod Lawful
 mod Playing
 mod Rounding
-pub mod Sharing
+mod Sharing
 mod Standing

@@ -2,12 +2,14 @@ mod AddressLists
 mod AuditedLines
 mod Auditing
 mod CommandServers
-mod Demonstrating
 mod Digits
+mod FrameVips
 mod LawfulLines
 mod Parts
 mod PrintedLines
+mod Rarely
 mod Running
 mod Sorting
 mod Stepping
+mod Taking
 mod Writing

@@ -1,7 +1,6 @@
 pub mod Audit
 pub mod Capture
 pub mod Command
-pub mod Demo
 pub mod LawfulLog
 pub mod Make
 pub mod Numbering
@@ -11,6 +10,8 @@ pub mod Outside
 pub mod Parting
 pub mod Played
 pub mod Printing
+pub mod RareLog
 pub mod ScriptText
 pub mod Servers
+pub mod SettledLog
 pub mod Status

@@ -94,8 +94,8 @@ fn play_by(alloc: Global, script: Script, packets: &[Timed], way: Way) -> Result
     }
 }
 
-/// How a run ends once its log is printed: a refusal of the capture comes before a key that an update waits for.
-pub(crate) fn status_after(refusal: Option<CaptureRefusal>, awaited: Option<Key>) -> Status
+// How a run ends once its log is printed: a refusal of the capture comes before a key that an update waits for.
+fn status_after(refusal: Option<CaptureRefusal>, awaited: Option<Key>) -> Status
     ensures { result ≡ status_after refusal awaited }
 {
     match refusal {

@@ -1,7 +1,6 @@
 ghost use Rattle.std.specs.Prelude.{◌≡◌, ◌⊎◌, List, ℕ, Some, None, map, string_bytes};
 ghost use Rattle.sr_run.specs.Audit.{RunsAudit};
-ghost use Rattle.sr_run.specs.Command.{One, Make, Audit, Replay, Steps, Demo, command_of};
-ghost use Rattle.sr_run.specs.Demo.{RunsDemo};
+ghost use Rattle.sr_run.specs.Command.{One, Make, Audit, Replay, Steps, command_of};
 ghost use Rattle.sr_run.specs.Make.{RunsMake};
 ghost use Rattle.sr_run.specs.One.{RunsOne};
 ghost use Rattle.sr_run.specs.Outside.{TellsFaults, WritesNothing, outside};
@@ -13,7 +12,6 @@ ghost use Rattle.sr_script.specs.declared.refusal.ScriptRefusal.{ScriptRefusal a
 use crate::Status;
 use crate::audit::run_audit;
 use crate::command::{Command, read_command};
-use crate::demo::run_demo;
 use crate::make_capture::run_make;
 use crate::one::run_one;
 use crate::played::run_played;
@@ -57,8 +55,6 @@ pub fn run<R: Threads + Sync, S: Source, F: Shelf, K: Sink, G: Gate + Sync>(
         → RunsPlay script (ByPicks seed) result (outside (S.known source.old) (F.known shelf.old) (K.known sink.old))
         (outside (S.known source.new) (F.known shelf.new) (K.known sink.new))
         × ((refusal : ARefusal) → result ≡ Script refusal → source.new ≡ source.old) }
-    ensures demo { (number : ℕ) → command_of (map string_bytes words.now) ≡ Some (Demo number)
-        → RunsDemo number result (K.known sink.old) (K.known sink.new) × (source.new ≡ source.old) × (shelf.new ≡ shelf.old) }
 
     // What holds of every command, source, shelf and sink.
     ensures faults { TellsFaults result (outside (S.known source.old) (F.known shelf.old) (K.known sink.old))
@@ -70,7 +66,6 @@ pub fn run<R: Threads + Sync, S: Source, F: Shelf, K: Sink, G: Gate + Sync>(
         Ok(None) => Status::Usage,
         Ok(Some(Command::One { vip, servers })) => run_one(alloc, vip, servers, source, sink),
         Ok(Some(Command::Make { number, packets })) => run_make(number, packets, sink),
-        Ok(Some(Command::Demo { number })) => run_demo(alloc, number, sink),
         Ok(Some(Command::Audit { script })) => run_audit(alloc, script, source, shelf, sink),
         Ok(Some(Command::Replay { script })) => run_played(
             alloc,

@@ -14,8 +14,8 @@ use Rattle.sr_frame.specs.declared.seen.Seen.TheVariants as seen_as
 use Rattle.sr_inv_entered.specs.Entered.{AreTakable, MayEnter, given}
 use Rattle.sr_pcap.specs.declared.begin_refusal.BeginRefusal.{BeginRefusal}
 use Rattle.sr_rounds.specs.declared.timed.Timed.{Timed}
-use Rattle.sr_played.proofs.FrameVips.{packets_within}
-use Rattle.sr_played.specs.Captured.{played_packets, timed}
+use Rattle.sr_run.proofs.FrameVips.{packets_within}
+use Rattle.sr_run.specs.Played.{played_packets, timed}
 use Rattle.sr_script.specs.Fitting.{IsFitting}
 use Rattle.sr_script.specs.Spelled.{Spelled}
 use Rattle.sr_scripted.specs.Config.{config_of}

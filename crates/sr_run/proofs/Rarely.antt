@@ -1,20 +1,25 @@
 -- Verdicts that come for a rare reason alone, of lines that are lawful and settled.
-use Rattle.std.proofs.Common.{◌≡◌, ℕ, zero, suc, ◌≤◌, true, List, [], ◌∷◌, take, count_by, None, Option, Some, refl, sym, subst, ◌∙◌}
+use Rattle.std.proofs.Common.{◌≡◌, ℕ, true, List, [], ◌∷◌, None, Option, Some, refl, sym, ◌∙◌}
 use Rattle.std.proofs.lemmas.Bool.{and_parts}
 use Rattle.sr_base.specs.Key.{KeyView}
 use Rattle.sr_base.specs.declared.packet.Packet.{Packet}
+use Rattle.sr_base.specs.declared.shape.Shape.{Shape}
 use Rattle.sr_inv_ends.specs.Laws.{SettledFor}
 use Rattle.sr_law.specs.Lawful.{IsLawful}
+use Rattle.sr_law.specs.Pools.{VipPools}
 use Rattle.sr_law.specs.Settled.{DueGive, due_gives, gives_settled, is_settled, rest_of}
 use Rattle.sr_law.specs.Setup.{SetupView}
 use Rattle.sr_law.specs.declared.line.Line.{Line}
 use Rattle.sr_law_causes.proofs.Freely.{free_rows}
 use Rattle.sr_law_causes.proofs.Reporting.{few}
 use Rattle.sr_law_causes.proofs.Unchanged.{unchanged}
-use Rattle.sr_law_causes.specs.Rare.{HasFreeRows, HasNone, finds_no_place, is_full_on, reports_on, waits_for_update}
+use Rattle.sr_law_causes.specs.Rare.{HasNone, waits_for_update}
 use Rattle.sr_rounds.specs.declared.timed.Timed.{Timed}
-use Rattle.sr_played.specs.Captured.{last_time, script_setup}
+use Rattle.sr_frame.specs.declared.skip.Skip.{Skip}
+use Rattle.sr_run.specs.RareLog.{IsRareLog}
+use Rattle.sr_run.specs.SettledLog.{last_time, script_setup}
 use Rattle.sr_script.specs.Spelled.{Spelled}
+use Rattle.sr_text.specs.LineText.{log_text}
 use Rattle.sr_law.specs.declared.line.Line.TheVariants as line
 
 -- a setup with these packets
@@ -41,34 +46,25 @@ gives_same setup p q before dues (line.Cleared out key place ∷ rest) = gives_s
 gives_same setup p q before dues (line.Swept number from to at_ms ∷ rest) = gives_same setup p q (line.Swept number from to at_ms ∷ before) dues rest
 gives_same setup p q before dues (line.Retired out key ∷ rest) = gives_same setup p q (line.Retired out key ∷ before) dues rest
 
-take_none : {X : Type 0} (n : ℕ) → ◌≡◌ {A = List X} (take n []) []
-take_none zero = refl
-take_none (suc n) = refl
-
 module _ (s : Spelled) (packets : List Timed) (seen : List Packet) (lines : List Line) (lawful : IsLawful (with_packets (script_setup s) seen) lines) where
-  abbrev dues : List DueGive
-  dues = due_gives (last_time s packets) [] 0 s.changes
-
-  whole : is_settled (script_setup s) s.changes (last_time s packets) lines ≡ true → gives_settled (script_setup s) [] dues lines ≡ true
+  given : is_settled (script_setup s) s.changes (last_time s packets) lines ≡ true
+      → gives_settled (with_packets (script_setup s) seen) [] (due_gives (last_time s packets) [] 0 s.changes) lines ≡ true
   unfolding is_settled
-  whole h = (and_parts _ _ (and_parts _ _ h).0).0
+  given h = gives_same (script_setup s) seen [] [] (due_gives (last_time s packets) [] 0 s.changes) lines ∙ (and_parts _ _ (and_parts _ _ h).0).0
 
-  -- where no change of a pool was due, none was made, with an update that waits too
-  none_made : (awaited : Option KeyView) → SettledFor (script_setup s) s.changes (last_time s packets) awaited lines → dues ≡ []
-      → gives_settled (script_setup s) [] dues lines ≡ true
-  none_made None settled due = whole settled
-  none_made (Some key) settled due =
-      subst (λ ds. gives_settled (script_setup s) [] ds lines ≡ true) (take_none settled.first.count ∙ sym due)
-      (subst (λ ds. gives_settled (script_setup s) [] (take settled.first.count ds) lines ≡ true) due settled.first.told)
+  none_held : (awaited : Option KeyView) → SettledFor (script_setup s) s.changes (last_time s packets) awaited lines → awaited ≡ None
+      → due_gives (last_time s packets) [] 0 s.changes ≡ [] → HasNone waits_for_update lines
+  none_held None settled none due =
+      unchanged (with_packets (script_setup s) seen) _ lines (last_time s packets) s.changes lawful.0 (given settled) due
+  none_held (Some key) settled none due = absurd cc
 
-  pub none_held : (awaited : Option KeyView) → SettledFor (script_setup s) s.changes (last_time s packets) awaited lines → dues ≡ []
-      → HasNone waits_for_update lines
-  none_held awaited settled due =
-      unchanged (with_packets (script_setup s) seen) _ lines (last_time s packets) s.changes lawful.0
-      (gives_same (script_setup s) seen [] [] dues lines ∙ none_made awaited settled due) due
-
-  pub room_found : (pipe : ℕ) → count_by (reports_on pipe) lines ≤ s.shape.ring → HasNone (is_full_on pipe) lines
-  room_found pipe fit = few (with_packets (script_setup s) seen) _ lines pipe lawful.0 fit
-
-  pub places_found : HasFreeRows lines → HasNone finds_no_place lines
-  places_found = free_rows (with_packets (script_setup s) seen) _ lines lawful.0
+  -- lawful and settled lines have such verdicts for those reasons alone
+  pub rarely : (skips : List (ℕ × Skip)) (awaited : Option KeyView) (text : List ℕ) → text ≡ log_text skips lines
+      → SettledFor (script_setup s) s.changes (last_time s packets) awaited lines → IsRareLog s skips packets awaited text
+  rarely skips awaited text printed settled = record {
+    lines = lines;
+    printed = printed;
+    rings = λ pipe fit. few (with_packets (script_setup s) seen) _ lines pipe lawful.0 fit;
+    updates = none_held awaited settled;
+    rows = free_rows (with_packets (script_setup s) seen) _ lines lawful.0;
+  }

@@ -1,4 +1,0 @@
-pub mod FrameVips
-pub mod Playing
-pub mod Rarely
-pub mod Taking

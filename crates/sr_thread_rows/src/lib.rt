@@ -1,5 +1,0 @@
-//! Runs on running threads, as tests.
-#![tactic(auto)]
-
-#[cfg(test)]
-mod runs;

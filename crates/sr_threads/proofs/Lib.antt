@@ -1,9 +1,0 @@
-mod Handled
-mod Laps
-mod Parts
-mod Replays
-mod Rests
-mod Rounding
-mod Together
-mod Turns
-mod Whole
