@@ -1,6 +1,7 @@
 pub mod Answers
 pub mod Audit
 pub mod Connections
+pub mod Counts
 pub mod Downs
 pub mod Greatest
 pub mod HeldCounts

@@ -18,12 +18,13 @@
 //! | After the walk: whether each packet has its final line | `final_lines`; `pairing`: `answers`, `held_counts` |
 //!
 //! `judge` asks them, and asks the plain bodies of `sr_law` what has no index yet: why openers were held or found their
-//! ring full, whether a version is free, and whether a connection was quiet. `walk` goes over the lines.
+//! ring full, whether a version is free, and whether a connection was quiet. `walk` goes over the lines. `counts` counts openings and switches.
 #![tactic(auto)]
 
 mod answers;
 mod audit;
 mod connections;
+mod counts;
 mod downs;
 mod final_lines;
 mod greatest_given;
@@ -41,4 +42,5 @@ mod switches;
 mod versions;
 mod walk;
 
+pub use counts::{count_openings, count_switches};
 pub use walk::check;

@@ -3,7 +3,7 @@ use Rattle.std.proofs.Common.{◌≡◌, ◌∙◌, ℕ, zero, suc, ◌+◌, ◌
 use Rattle.std.proofs.lemmas.Option.{same_Some}
 use Rattle.sr_core.specs.Making.{AnsweredBy, Made, made_before, words_after}
 use Rattle.sr_ctl.proofs.Turning.{end_of, step_not_over}
-use Rattle.sr_ctl.specs.Laws.{SettlesAsMachine, stepped_to}
+use Rattle.sr_ctl.specs.Laws.{SettlesAsMachine, TurnsAsMachine, stepped_to}
 use Rattle.sr_ctl.specs.Settles.{Ended, EndsSo, Turns, begin, more, next_view}
 use Rattle.sr_ctl.specs.Steps.{AreSteps, steps_made}
 use Rattle.sr_ctl.specs.Turned.{Turned}
@@ -124,6 +124,9 @@ turn_is n s [] t d few found by = cc
 turn_is zero s (x ∷ xs) t d few found by = absurd (omega arith)
 turn_is (suc n) s (x ∷ xs) t d few found by =
     by_op n x xs t d s found by (λ u. turn_is n u xs t d (omega arith)) (controller_op s.config s.controller) refl found.0.0
+
+pub turns_as_machine : TurnsAsMachine
+turns_as_machine s t d answers h found = turn_is (most_steps s.config.layout) s answers t d h.few (h.each, found) h.act
 
 -- ---- all turns
 

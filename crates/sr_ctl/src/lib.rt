@@ -18,4 +18,4 @@ mod settling;
 mod went;
 
 pub use controller::Controller;
-pub use meaning::settling_is_the_machines;
+pub use meaning::{settling_is_the_machines, turning_is_the_machines};

@@ -2,5 +2,5 @@ pub mod Ending
 pub mod Lawful
 mod Playing
 mod Rounding
-mod Sharing
+pub mod Sharing
 mod Standing

@@ -1,7 +1,8 @@
 -- The changes of a script that are due, once the ones that were taken are those that the clock has reached.
-use Rattle.std.proofs.Common.{◌≡◌, ℕ, ◌+◌, ◌≤◌, ◌==◌, Bool, true, false, cond, List, [], ◌∷◌, ◌++◌, filter, length, map, reverse, if◌then◌else◌, count_by, Some, None, Option, sym, refl, ap, ◌∙◌, subst, append-nil, arith}
+use Rattle.std.proofs.Common.{◌≡◌, ℕ, ◌+◌, ◌≤◌, ◌==◌, Bool, true, false, cond, List, [], ◌∷◌, ◌++◌, filter, length, map, reverse, take, if◌then◌else◌, count_by, Some, None, Option, sym, refl, ap, ◌∙◌, subst, append-nil, arith}
 use Rattle.std.proofs.lemmas.Bool.Decides.{nat_tests}
-use Rattle.std.proofs.lemmas.List.{length-append, reverse-append}
+use Rattle.std.proofs.Math.Seq.{take-append_seam}
+use Rattle.std.proofs.lemmas.List.{length-append, map-append, reverse-append}
 use Rattle.std.proofs.lemmas.List.Elements.{filter-append}
 use Rattle.std.proofs.lemmas.List.Sums.{sum_by-append, sum_by-cons}
 use Rattle.std.specs.List.{AllByRecursion, list_all}
@@ -124,6 +125,18 @@ pub dues_made : (clock : Option ℕ) (changes : List Change) (made gives : List 
     → due_gives clock [] 0 changes ≡ map due_of made
 dues_made clock changes made gives e a b =
     all_due clock [] [] changes (λ vip. refl) ∙ ap (map due_of) (parted (Come clock) (gives_after [] changes) made gives e a b)
+
+-- where the changes that were made come first and had come due, they are the first of the due ones
+pub dues_begun : (clock : Option ℕ) (changes : List Change) (made gives : List GiveChange) → gives_after [] changes ≡ made ++ gives
+    → AllByRecursion (λ g. has_come g.at_ms clock ≡ true) made
+    → take (length (map due_of made)) (due_gives clock [] 0 changes) ≡ map due_of made
+dues_begun clock changes made gives e a =
+    let others : List GiveChange = filter (Come clock) gives in
+    let dues : due_gives clock [] 0 changes ≡ map due_of made ++ map due_of others =
+    all_due clock [] [] changes (λ vip. refl)
+    ∙ ap (map due_of) (ap (filter (Come clock)) e ∙ (filter-append (Come clock) made gives ∙ ap (λ gs. gs ++ others) (filter_whole (Come clock) made a)))
+    ∙ map-append due_of made others in
+    ap (take (length (map due_of made))) dues ∙ take-append_seam (map due_of made) (map due_of others)
 
 -- ---- servers
 

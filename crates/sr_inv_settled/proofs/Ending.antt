@@ -1,5 +1,5 @@
 -- The lines of a state in which nothing is left to do are settled.
-use Rattle.std.proofs.Common.{◌≡◌, ℕ, ◌+◌, ◌&&◌, nat_lt, nat_le, Bool, true, false, List, [], ◌∷◌, ◌++◌, reverse, Some, None, Option, option_and_then, if◌then◌else◌, append-nil, sym, refl, ap, ◌∙◌, subst, arith}
+use Rattle.std.proofs.Common.{◌≡◌, ℕ, ◌+◌, ◌&&◌, nat_lt, nat_le, Bool, true, false, List, [], ◌∷◌, ◌++◌, length, map, reverse, Some, None, Option, option_and_then, if◌then◌else◌, append-nil, sym, refl, ap, ◌∙◌, subst, arith}
 use Rattle.std.proofs.lemmas.Bool.Decides.{nat_tests}
 use Rattle.std.proofs.lemmas.List.{append_cancel_right, map-append}
 use Rattle.std.proofs.lemmas.Option.{same_Some}
@@ -16,9 +16,10 @@ use Rattle.sr_inv_facts.specs.Laws.{OpensWith}
 use Rattle.sr_inv_final.specs.Reached.{IsReached}
 use Rattle.sr_inv_order.proofs.Grouped.{pools_count}
 use Rattle.sr_inv_order.proofs.Rising.{and_true}
-use Rattle.sr_inv_settled.proofs.DueChanges.{all_often, downs_made, dues_made, none_due}
+use Rattle.sr_inv_settled.proofs.DueChanges.{all_often, downs_made, dues_begun, dues_made, none_due}
 use Rattle.sr_inv_settled.proofs.GivesKept.{other_taken}
-use Rattle.sr_inv_settled.specs.Told.{DownsKept, GivesKept, IsTaken}
+use Rattle.sr_inv_settled.specs.Laws.{FirstSettled}
+use Rattle.sr_inv_settled.specs.Told.{DownsKept, GivesKept, IsTaken, due_of}
 use Rattle.sr_law.specs.Groups.{after_gives, is_over, last_of_update}
 use Rattle.sr_law.specs.Retire.{last_sweep}
 use Rattle.sr_law.specs.Settled.{downs_of, downs_settled, due_downs, due_gives, gives_settled, is_number_as_often, sweep_time, sweeps_settled, update_settled}
@@ -69,6 +70,15 @@ module _ (s : Core) (i : Invariant s) (free : s.controller.job ≡ job.Free) whe
       let whole = h.all ∙ ap (λ t. h.made ++ (t ++ s.controller.gives)) none in
       let come = all_front (λ g. has_come g.at_ms clock ≡ true) h.made h.taken h.due in
       subst (λ ds. gives_settled (setup_of s.config) [] ds (lines_of s) ≡ true) (sym (dues_made clock s.config.changes h.made s.controller.gives whole come later)) h.told
+
+  pub gives_begun : GivesKept s → FirstSettled (setup_of s.config) s.config.changes clock (lines_of s)
+  gives_begun h =
+      let come = all_front (λ g. has_come g.at_ms clock ≡ true) h.made h.taken h.due in
+      let begun = dues_begun clock s.config.changes h.made (h.taken ++ s.controller.gives) h.all come in
+      record {
+        count = length (map due_of h.made);
+        told = subst (λ ds. gives_settled (setup_of s.config) [] ds (lines_of s) ≡ true) (sym begun) h.told;
+      }
 
   -- ---- servers
 

@@ -8,7 +8,7 @@ use Rattle.sr_inv_facts.specs.Invariant.{Invariant}
 use Rattle.sr_inv_final.specs.Reached.{IsReached}
 use Rattle.sr_inv_order.proofs.Rising.{and_true}
 use Rattle.sr_inv_settled.proofs.DownsKept.{downs_keep, downs_open}
-use Rattle.sr_inv_settled.proofs.Ending.{downs_end, gives_end, reached_holds, sweeps_end, update_end}
+use Rattle.sr_inv_settled.proofs.Ending.{downs_end, gives_begun, gives_end, reached_holds, sweeps_end, update_end}
 use Rattle.sr_inv_settled.proofs.GivesKept.{gives_keep, gives_open}
 use Rattle.sr_inv_settled.proofs.Placing.{all_placed}
 use Rattle.sr_inv_settled.proofs.Quieting.{none_quiet}
@@ -59,6 +59,7 @@ waiting k s key f r h =
     let i = meets k s f r in
     subst (λ c. SettledWaiting (setup_of c) c.changes s.controller.clock (lines_of s) key) (same k s f r) (record {
       settled = idle_settled k s f r h.nothing;
+      first = gives_begun s i h.nothing.free (reached_holds GivesKept gives_keep gives_open k s f r);
       waits = subst (λ ls. WaitsFor (setup_of s.config) ls key) (sym (reverse-reverse (printed s))) (record {
         begun = waits_begun s i key h;
         opened = waits_open s i key h;

@@ -1,5 +1,5 @@
 -- What is proved of the lines of a state in which nothing is left to do.
-use Rattle.std.specs.Prelude.{◌≡◌, ℕ, true, false, List, [], Option, reverse}
+use Rattle.std.specs.Prelude.{◌≡◌, ℕ, true, false, List, [], Option, reverse, take}
 use Rattle.sr_base.specs.Key.{KeyView}
 use Rattle.sr_base.specs.declared.change.Change.{Change}
 use Rattle.sr_inv_facts.specs.Fitted.{IsFitted}
@@ -8,7 +8,7 @@ use Rattle.sr_inv_final.specs.Reached.{IsReached}
 use Rattle.sr_inv_settled.specs.Quiet.{IsQuiet, IsWaiting}
 use Rattle.sr_law.specs.Opening.{is_open}
 use Rattle.sr_law.specs.Rows.{is_group_full}
-use Rattle.sr_law.specs.Settled.{is_settled, is_settled_waiting, standing, update_settled}
+use Rattle.sr_law.specs.Settled.{due_gives, gives_settled, is_settled, is_settled_waiting, standing, update_settled}
 use Rattle.sr_law.specs.Setup.{SetupView}
 use Rattle.sr_law.specs.declared.line.Line.{Line}
 use Rattle.sr_machine.specs.Config.{Config}
@@ -28,9 +28,15 @@ pub record WaitsFor (setup : SetupView) (lines : List Line) (key : KeyView) : Ty
   pub unplaced : standing key [] lines ≡ []
   pub full : is_group_full setup.shape lines key ≡ true
 
--- Where an update waits for a key, a printed list is settled but for what is said of changes of pools and of the last update; and it tells why the update waits.
+-- the first so many of the due changes of pools were made or refused, each once, in the script's order, and no others
+pub record FirstSettled (setup : SetupView) (changes : List Change) (clock : Option ℕ) (lines : List Line) : Type 0 where
+  pub count : ℕ
+  pub told : gives_settled setup [] (take count (due_gives clock [] 0 changes)) lines ≡ true
+
+-- Where an update waits for a key, a printed list is settled but for the changes of pools that come after that update, and for the last update; and it tells why the update waits.
 pub record SettledWaiting (setup : SetupView) (changes : List Change) (clock : Option ℕ) (lines : List Line) (key : KeyView) : Type 0 where
   pub settled : is_settled_waiting setup changes clock lines ≡ true
+  pub first : FirstSettled setup changes clock lines
   pub waits : WaitsFor setup (reverse lines) key
 
 -- the lines of such a state are

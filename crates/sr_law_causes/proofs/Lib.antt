@@ -1,4 +1,5 @@
-mod Walking
+pub mod Walking
 pub mod Freely
 pub mod Reporting
 pub mod Unchanged
+pub mod Plainly

@@ -1,9 +1,9 @@
 -- The levels over a list of counts.
 use Rattle.std.proofs.Common.{◌≡◌, ℕ, zero, suc, ◌+◌, ◌≤◌, List, [], length, refl, ◌∙◌, arith, add-one}
-use Rattle.sr_marks.specs.Counts.{total, pairs, level_of, AreLevels}
-use Rattle.sr_marks.proofs.Pairing.{total-pairs, length-pairs}
+use Rattle.sr_marks.specs.Counts.{total, groups, level_of, AreLevels}
+use Rattle.sr_marks.proofs.Grouping.{total-groups, length-groups}
 
-pub level_more : (i : ℕ) (xs : List ℕ) → level_of (i + 1) xs ≡ pairs (level_of i xs)
+pub level_more : (i : ℕ) (xs : List ℕ) → level_of (i + 1) xs ≡ groups (level_of i xs)
 unfolding level_of
 level_more i xs = rw add-one refl
 
@@ -15,13 +15,13 @@ level_zero xs = refl
 pub total-level : (i : ℕ) (xs : List ℕ) → total (level_of i xs) ≡ total xs
 unfolding level_of
 total-level zero xs = refl
-total-level (suc i) xs = total-pairs (level_of i xs) ∙ total-level i xs
+total-level (suc i) xs = total-groups (level_of i xs) ∙ total-level i xs
 
 -- and is no longer than the list
 pub length-level : (i : ℕ) (xs : List ℕ) → length (level_of i xs) ≤ length xs
 unfolding level_of
 length-level zero xs = omega arith
-length-level (suc i) xs = let e = length-level i xs in let n = length-pairs (level_of i xs) in omega arith
+length-level (suc i) xs = let e = length-level i xs in let n = length-groups (level_of i xs) in omega arith
 
 -- no levels, of an empty list
 pub no_levels : AreLevels [] []

@@ -1,6 +1,8 @@
-pub mod Counting
+pub mod Bits
+pub mod Grouping
+pub mod Keeping
 pub mod Levels
-pub mod Pairing
 pub mod SetMarks
+pub mod Tiering
 pub mod Walks
-pub mod Weighing
+pub mod Wording

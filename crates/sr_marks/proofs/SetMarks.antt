@@ -1,5 +1,5 @@
 -- What holds of lists of marks, for callers.
-use Rattle.std.proofs.Common.{◌≡◌, ℕ, zero, suc, ◌+◌, ◌<◌, ◌≤◌, Bool, true, false, List, [], ◌∷◌, ◌++◌, length, get_or, set, Option, Some, None, ap, refl, arith, add-one}
+use Rattle.std.proofs.Common.{◌≡◌, ℕ, zero, suc, ◌+◌, ◌<◌, ◌≤◌, Bool, true, false, List, [], ◌∷◌, ◌++◌, length, get_or, set, Option, Some, None, IfSome, ap, refl, arith, add-one}
 use Rattle.std.proofs.lemmas.List.{take_all, take-set-le}
 use Rattle.std.specs.Prelude.{option_map}
 use Rattle.sr_marks.specs.Counts.{weight}
@@ -119,6 +119,13 @@ next_set-none (suc from) (mark ∷ rest) e zero above = absurd (omega arith)
 next_set-none (suc from) (mark ∷ rest) e (suc k) above = next_set-none from rest (none_on _ e) k (omega arith)
 
 -- and the other way round
+pub next_set-missing : (from : ℕ) (ms : List Bool) → ((k : ℕ) → from ≤ k → get_or ms k false ≡ false) → next_set from ms ≡ None
+unfolding next_set
+next_set-missing from [] unset = refl
+next_set-missing zero (true ∷ rest) unset = let first : true ≡ false = unset 0 (omega arith) in cc
+next_set-missing zero (false ∷ rest) unset = ap (option_map (λ k. suc k)) (next_set-missing zero rest (λ k above. unset (suc k) (omega arith)))
+next_set-missing (suc from) (mark ∷ rest) unset = ap (option_map (λ k. suc k)) (next_set-missing from rest (λ k above. unset (suc k) (omega arith)))
+
 pub next_set-found : (from : ℕ) (ms : List Bool) (at : ℕ) → from ≤ at → get_or ms at false ≡ true → ((k : ℕ) → from ≤ k → k < at → get_or ms k false ≡ false) → next_set from ms ≡ Some at
 unfolding next_set
 next_set-found from [] at above marked between = cc
@@ -131,7 +138,12 @@ next_set-found (suc from) (mark ∷ rest) zero above marked between = absurd (om
 next_set-found (suc from) (mark ∷ rest) (suc at) above marked between =
     ap (option_map (λ k. suc k)) (next_set-found from rest at (omega arith) marked (λ k low high. between (suc k) (omega arith) (omega arith)))
 
--- ranks: one position on, and no more than are set
+-- ranks: none is set before the first position
+pub rank_zero : (ms : List Bool) → rank_of 0 ms ≡ 0
+unfolding count_set
+rank_zero ms = refl
+
+-- one position on, and no more than are set
 rank_suc : (ms : List Bool) (at : ℕ) → rank_of (suc at) ms ≡ rank_of at ms + weight (get_or ms at false)
 unfolding count_set
 rank_suc [] zero = refl
@@ -158,3 +170,11 @@ rank_all ms at past = ap count_set (take_all at ms past)
 -- a mark doesn't change the ranks up to it
 pub rank-set : (ms : List Bool) (at k : ℕ) (mark : Bool) → k ≤ at → rank_of k (set ms at mark) ≡ rank_of k ms
 rank-set ms at k mark early = ap count_set (take-set-le k ms at mark early)
+
+-- a next one is in the list
+next_set-inside : (from : ℕ) (ms : List Bool) (found : Option ℕ) → next_set from ms ≡ found → IfSome found (λ at. at < length ms)
+next_set-inside from ms None is = tt
+next_set-inside from ms (Some at) is = (next_set-is from ms at is).1
+
+pub next_set-within : (from : ℕ) (ms : List Bool) → IfSome (next_set from ms) (λ at. at < length ms)
+next_set-within from ms = next_set-inside from ms (next_set from ms) refl

@@ -2,8 +2,8 @@
 use Rattle.std.proofs.Common.{◌≡◌, ℕ, zero, suc, ◌+◌, ◌-◌, ◌*◌, ◌/◌, ◌%◌, ◌<◌, ◌≤◌, ◌≢◌, List, [], ◌∷◌, ◌++◌, length, get_or, set, inl, inr, ap, sym, refl, ◌∙◌, subst, arith, length-set, get_or-set_same, get_or-set_other}
 use Rattle.std.proofs.lemmas.List.{get_or_append_left, get_or_push, length_push, get_or_read}
 use Rattle.std.proofs.lemmas.Bool.{cases_lt, cases_eq}
-use Rattle.sr_marks.specs.Counts.{total, total_before, pairs, level_of, lowest, AreLevels}
-use Rattle.sr_marks.proofs.Pairing.{length-pairs, get_or-pairs, before-pairs, before_more, entry-le, pairs-set}
+use Rattle.sr_marks.specs.Counts.{total, total_before, groups, level_of, lowest, AreLevels}
+use Rattle.sr_marks.proofs.Grouping.{length-groups, get_or-groups, before-groups, group-le, group_count, entry-le, groups-set}
 use Rattle.sr_marks.proofs.Levels.{level_more, level_zero, total-level, length-level}
 
 -- The levels so far, and the next one.
@@ -24,20 +24,20 @@ each_more levels level xs grown i below =
           get_or_push levels level [] i last ∙ (grown.next ∙ ap (λ n. level_of n xs) last)
     ]
 
-pub growing_more : (levels more : List (List ℕ)) (level above xs : List ℕ) → Growing levels level xs → more ≡ levels ++ level ∷ [] → above ≡ pairs level → Growing more above xs
-growing_more levels more level above xs grown pushed halved =
+pub growing_more : (levels more : List (List ℕ)) (level above xs : List ℕ) → Growing levels level xs → more ≡ levels ++ level ∷ [] → above ≡ groups level → Growing more above xs
+growing_more levels more level above xs grown pushed grouped =
     let long : length more ≡ length levels + 1 = ap length pushed ∙ length_push levels level in
     record {
       each = λ i below. rw pushed (each_more levels level xs grown i (omega arith));
-      next = halved ∙ (ap pairs grown.next ∙ (sym (level_more (length levels) xs) ∙ ap (λ n. level_of n xs) (sym long)));
+      next = grouped ∙ (ap groups grown.next ∙ (sym (level_more (length levels) xs) ∙ ap (λ n. level_of n xs) (sym long)));
     }
 
 -- a level of at most one count is the last
 pub growing_all : (levels all : List (List ℕ)) (level xs : List ℕ) → Growing levels level xs → length level ≤ 1 → all ≡ levels ++ level ∷ [] → AreLevels all xs
 growing_all levels all level xs grown short pushed =
     let long : length all ≡ length levels + 1 = ap length pushed ∙ length_push levels level in
-    let last : level_of (length all) xs ≡ pairs level = ap (λ n. level_of n xs) long ∙ (level_more (length levels) xs ∙ ap pairs (sym grown.next)) in
-    let halved = length-pairs level in
+    let last : level_of (length all) xs ≡ groups level = ap (λ n. level_of n xs) long ∙ (level_more (length levels) xs ∙ ap groups (sym grown.next)) in
+    let grouped = length-groups level in
     let sized = ap length last in
     record {
       each = λ i below. rw pushed (each_more levels level xs grown i (omega arith));
@@ -56,32 +56,22 @@ pub record Summing (xs : List ℕ) (start i at sum : ℕ) : Type 0 where
 pub summing_none : (xs : List ℕ) (at : ℕ) → at < length xs → Summing xs at 0 at 0
 summing_none xs at within = record { within = rw level_zero within; so_far = rw level_zero (omega arith) }
 
--- what is still to be added doesn't pass the sum
-pub summing-le : (xs level : List ℕ) (start i at sum : ℕ) → Summing xs start i at sum → level ≡ level_of i xs → 0 < at → sum + get_or level (at - 1) 0 ≤ total xs
-summing-le xs level start i at sum summed here some =
-    let past : at - 1 + 1 ≡ at = omega arith in
-    let more : total_before at (level_of i xs) ≡ total_before (at - 1) (level_of i xs) + get_or (level_of i xs) (at - 1) 0 = subst (λ (k : ℕ). total_before k (level_of i xs) ≡ total_before (at - 1) (level_of i xs) + get_or (level_of i xs) (at - 1) 0) past (before_more (level_of i xs) (at - 1)) in
+-- what is added stays within the sum
+pub summing-le : (xs level : List ℕ) (start i at sum x : ℕ) → Summing xs start i at sum → level ≡ level_of i xs → total_before (at - at % 64) level + x ≡ total_before at level → sum + x ≤ total xs
+summing-le xs level start i at sum x summed here added =
+    let here_before = ap (λ ys. total_before at ys) here in
     let all = entry-le xs start in
     let so_far = summed.so_far in
-    rw here (omega arith)
+    omega arith
 
-pub summing_even : (xs : List ℕ) (start i at sum : ℕ) → Summing xs start i at sum → at % 2 ≡ 0 → Summing xs start (i + 1) (at / 2) sum
-summing_even xs start i at sum summed even =
-    let half : 2 * (at / 2) ≡ at = omega arith in
-    let before : total_before (at / 2) (pairs (level_of i xs)) ≡ total_before at (level_of i xs) = before-pairs (level_of i xs) (at / 2) ∙ ap (λ k. total_before k (level_of i xs)) half in
-    let halved = length-pairs (level_of i xs) in
-    let within = summed.within in
-    let so_far = summed.so_far in
-    record { within = rw level_more (omega arith); so_far = rw level_more (omega arith) }
-
-pub summing_odd : (xs level : List ℕ) (start i at sum more : ℕ) → Summing xs start i at sum → level ≡ level_of i xs → at % 2 ≡ 1 → more ≡ sum + get_or level (at - 1) 0 → Summing xs start (i + 1) (at / 2) more
-summing_odd xs level start i at sum more summed here odd added =
-    let half : 2 * (at / 2) ≡ at - 1 = omega arith in
-    let past : at - 1 + 1 ≡ at = omega arith in
-    let before : total_before (at / 2) (pairs (level_of i xs)) ≡ total_before (at - 1) (level_of i xs) = before-pairs (level_of i xs) (at / 2) ∙ ap (λ k. total_before k (level_of i xs)) half in
-    let last : total_before at (level_of i xs) ≡ total_before (at - 1) (level_of i xs) + get_or (level_of i xs) (at - 1) 0 = subst (λ (k : ℕ). total_before k (level_of i xs) ≡ total_before (at - 1) (level_of i xs) + get_or (level_of i xs) (at - 1) 0) past (before_more (level_of i xs) (at - 1)) in
-    let count : get_or level (at - 1) 0 ≡ get_or (level_of i xs) (at - 1) 0 = ap (λ ys. get_or ys (at - 1) 0) here in
-    let halved = length-pairs (level_of i xs) in
+-- a level on
+pub summing_more : (xs level : List ℕ) (start i at sum more x : ℕ) → Summing xs start i at sum → level ≡ level_of i xs → total_before (at - at % 64) level + x ≡ total_before at level → more ≡ sum + x → Summing xs start (i + 1) (at / 64) more
+summing_more xs level start i at sum more x summed here added is =
+    let begin : 64 * (at / 64) ≡ at - at % 64 = omega arith in
+    let before : total_before (at / 64) (groups (level_of i xs)) ≡ total_before (at - at % 64) (level_of i xs) = before-groups (level_of i xs) (at / 64) ∙ ap (λ k. total_before k (level_of i xs)) begin in
+    let here_begin = ap (λ ys. total_before (at - at % 64) ys) here in
+    let here_before = ap (λ ys. total_before at ys) here in
+    let grouped = length-groups (level_of i xs) in
     let within = summed.within in
     let so_far = summed.so_far in
     record { within = rw level_more (omega arith); so_far = rw level_more (omega arith) }
@@ -122,22 +112,24 @@ finding-within xs n i at rest found =
     let short = length-level i xs in
     omega arith
 
--- into the left one of two neighbours, or into the right one
-pub finding_left : (xs level : List ℕ) (n i at rest : ℕ) → Finding xs n (i + 1) at rest → level ≡ level_of i xs → rest < get_or level (2 * at) 0 → Finding xs n i (2 * at) rest
-finding_left xs level n i at rest found here left =
-    let so_far : total_before at (pairs (level_of i xs)) + rest ≡ n = rw level_more at found.so_far in
-    let before = before-pairs (level_of i xs) at in
-    record { so_far = omega arith; inside = rw here at left }
+-- what a group is asked for is in it
+pub finding-fits : (xs level : List ℕ) (n i at rest : ℕ) → Finding xs n (i + 1) at rest → level ≡ level_of i xs → total_before (64 * at) level + rest < total level
+finding-fits xs level n i at rest found here =
+    let inside : rest < get_or (groups (level_of i xs)) at 0 = rw level_more at found.inside in
+    let group = get_or-groups (level_of i xs) at in
+    let most = group-le (level_of i xs) at in
+    let before = ap (λ ys. total_before (64 * at) ys) here in
+    let all = ap total here in
+    omega arith
 
-pub finding_right : (xs level : List ℕ) (n i at rest : ℕ) → Finding xs n (i + 1) at rest → level ≡ level_of i xs → get_or level (2 * at) 0 ≤ rest → Finding xs n i (2 * at + 1) (rest - get_or level (2 * at) 0)
-finding_right xs level n i at rest found here right =
-    let so_far : total_before at (pairs (level_of i xs)) + rest ≡ n = rw level_more at found.so_far in
-    let inside : rest < get_or (pairs (level_of i xs)) at 0 = rw level_more at found.inside in
-    let before = before-pairs (level_of i xs) at in
-    let more = before_more (level_of i xs) (2 * at) in
-    let pair = get_or-pairs (level_of i xs) at in
-    let count : get_or level (2 * at) 0 ≡ get_or (level_of i xs) (2 * at) 0 = ap (λ ys. get_or ys (2 * at) 0) here in
-    record { so_far = omega arith; inside = omega arith }
+-- a level down
+pub finding_down : (xs level : List ℕ) (n i at rest found_at left : ℕ) → Finding xs n (i + 1) at rest → level ≡ level_of i xs → total_before found_at level + left ≡ total_before (64 * at) level + rest → left < get_or level found_at 0 → Finding xs n i found_at left
+finding_down xs level n i at rest found_at left found here reached below =
+    let so_far : total_before at (groups (level_of i xs)) + rest ≡ n = rw level_more at found.so_far in
+    let begin = before-groups (level_of i xs) at in
+    let before = ap (λ ys. total_before (64 * at) ys) here in
+    let before_found = ap (λ ys. total_before found_at ys) here in
+    record { so_far = omega arith; inside = rw here at below }
 
 pub finding_all : (xs : List ℕ) (n at rest : ℕ) → Finding xs n 0 at rest → (total_before at xs ≤ n) × (n < total_before at xs + get_or xs at 0)
 finding_all xs n at rest found =
@@ -182,23 +174,15 @@ changing-some old new xs ys many levels i at changed below =
     let whole = total-level i xs in
     (omega arith, omega arith)
 
-half_count : (xs : List ℕ) (at : ℕ) → get_or xs at 0 ≤ get_or (pairs xs) (at / 2) 0
-half_count xs at =
-    let pair = get_or-pairs xs (at / 2) in
-    elim (cases_eq (at % 2) 0) [
-      | inl even ↦ let half : 2 * (at / 2) ≡ at = omega arith in let same : get_or xs (2 * (at / 2)) 0 ≡ get_or xs at 0 = ap (λ k. get_or xs k 0) half in omega arith
-      | inr odd ↦ let half : 2 * (at / 2) + 1 ≡ at = omega arith in let same : get_or xs (2 * (at / 2) + 1) 0 ≡ get_or xs at 0 = ap (λ k. get_or xs k 0) half in omega arith
-    ]
-
-pub changing_more : (old new : ℕ) (xs ys : List ℕ) (many : ℕ) (levels next : List (List ℕ)) (i at v : ℕ) → Changing old new xs ys many levels i at → i < many → v + old ≡ get_or (get_or levels i []) at 0 + new → next ≡ set levels i (set (get_or levels i []) at v) → Changing old new xs ys many next (i + 1) (at / 2)
+pub changing_more : (old new : ℕ) (xs ys : List ℕ) (many : ℕ) (levels next : List (List ℕ)) (i at v : ℕ) → Changing old new xs ys many levels i at → i < many → v + old ≡ get_or (get_or levels i []) at 0 + new → next ≡ set levels i (set (get_or levels i []) at v) → Changing old new xs ys many next (i + 1) (at / 64)
 changing_more old new xs ys many levels next i at v changed below count written =
     let level = changed.left i (omega arith) below in
     let same : get_or (get_or levels i []) at 0 ≡ get_or (level_of i xs) at 0 = ap (λ zs. get_or zs at 0) level in
     let own : set (get_or levels i []) at v ≡ level_of i ys = ap (λ zs. set zs at v) level ∙ sym (changed.here v (omega arith)) in
-    let halved = length-pairs (level_of i xs) in
+    let grouped = length-groups (level_of i xs) in
     let within = changed.within in
     let some = changed.some in
-    let half = half_count (level_of i xs) at in
+    let half = group_count (level_of i xs) at in
     let long = changed.long in
     let here : get_or next i [] ≡ level_of i ys = ap (λ zs. get_or zs i []) written ∙ (get_or-set_same levels i _ [] (omega arith) ∙ own) in
     record {
@@ -211,8 +195,8 @@ changing_more old new xs ys many levels next i at v changed below count written 
       within = rw level_more (omega arith);
       some = rw level_more (omega arith);
       here = λ w e.
-          let value : w + old ≡ get_or (pairs (level_of i xs)) (at / 2) 0 + new = rw level_more at e in
-          level_more i ys ∙ (ap pairs (changed.here v (omega arith)) ∙ (pairs-set (level_of i xs) at v w within (omega arith) ∙ ap (λ zs. set zs (at / 2) w) (sym (level_more i xs))));
+          let value : w + old ≡ get_or (groups (level_of i xs)) (at / 64) 0 + new = rw level_more at e in
+          level_more i ys ∙ (ap groups (changed.here v (omega arith)) ∙ (groups-set (level_of i xs) at v w within (omega arith) ∙ ap (λ zs. set zs (at / 64) w) (sym (level_more i xs))));
     }
 
 pub changing_all : (old new : ℕ) (xs ys : List ℕ) (many : ℕ) (levels first : List (List ℕ)) (i at : ℕ) → AreLevels first xs → length first ≡ many → Changing old new xs ys many levels i at → many ≡ i → AreLevels levels ys

@@ -1,6 +1,5 @@
 -- Lists of marks, and what is asked of them.
-use Rattle.std.specs.Prelude.{ℕ, zero, suc, ◌≡◌, ◌-◌, ◌^◌, ◌<◌, ◌≤◌, Bool, true, false, List, [], ◌∷◌, length, take, Option, Some, None, option_map}
-use Rattle.sr_marks.specs.Counts.{weights}
+use Rattle.std.specs.Prelude.{ℕ, zero, suc, Bool, true, false, List, [], ◌∷◌, take, Option, Some, None, option_map}
 
 -- a list of marks, and how many more can be pushed before memory is taken
 pub record MarksView : Type 0 where
@@ -30,11 +29,3 @@ next_set from [] = None
 next_set (suc from) (mark ∷ rest) = option_map (λ at. suc at) (next_set from rest)
 next_set zero (true ∷ rest) = Some 0
 next_set zero (false ∷ rest) = option_map (λ at. suc at) (next_set zero rest)
-
--- Marks in a vector of some capacity, beside their counts and how many are set.
-pub record AreCounted (marks : List Bool) (capacity : ℕ) (counts : List ℕ) (set : ℕ) : Type 0 where
-  pub counts_are : counts ≡ weights marks (length counts - length marks)
-  pub set_is : set ≡ count_set marks
-  pub within : length marks ≤ length counts
-  pub place : length counts ≤ capacity
-  pub short : length counts < 2 ^ 32

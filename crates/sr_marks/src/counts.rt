@@ -1,12 +1,14 @@
 ghost use Rattle.std.specs.Prelude.{◌≡◌, ◌+◌, ◌-◌, ◌^◌, ◌<◌, ◌≤◌, [], length, slice_index, slice_set, IfOk};
-ghost use Rattle.sr_marks.specs.Counts.{total, total_before, weights};
+ghost use Rattle.sr_marks.specs.Counts.{total, total_before};
+ghost use Rattle.sr_marks.specs.Words.{AreWordCounts};
 
+use crate::flags::Flags;
 use crate::level::Level;
 use std::alloc::{AllocError, Global};
 use std::marker::Model;
 
-/// A list of counts that tells the sum before a position, and the position that a sum reaches, in logarithmic time. Above the list
-/// are the sums of its neighbours, above these the sums of theirs, and so on, until one sum is left.
+/// A list of counts that tells the sum before a position, and the position that a sum reaches, in logarithmic time. Above the
+/// list are the sums of its groups of 64, above these the sums of theirs, and so on, until one sum is left.
 #[derive(Debug, Drop)]
 pub struct Counts {
     // The list itself first; none at all for an empty list that took no memory.
@@ -35,13 +37,12 @@ impl Counts {
         }
     }
 
-    /// Marks as counts, and zeros up to this capacity.
-    pub fn of(alloc: Global, marks: &[bool], capacity: usize) -> Result<Counts, AllocError>
-        requires fits { length marks.now ≤ capacity }
-        requires short { capacity < 2 ^ 32 }
-        ensures { IfOk result (λ c. c ≡ weights marks.now (capacity - length marks.now)) }
+    /// How many marks of each word are set.
+    pub fn of(alloc: Global, flags: &Flags) -> Result<Counts, AllocError>
+        requires short { length flags.now < 2 ^ 32 }
+        ensures { IfOk result (λ c. AreWordCounts c flags.now) }
     {
-        let lowest = Level::of(alloc, marks, capacity)?;
+        let lowest = Level::of(alloc, flags)?;
         Counts::over(alloc, lowest)
     }
 
@@ -53,7 +54,7 @@ impl Counts {
         let mut levels = Vec::new(alloc);
         let mut level = lowest;
         while level.len() > 1 {
-            let above = level.halved(alloc)?;
+            let above = level.grouped(alloc)?;
             levels.push(level)?;
             level = above;
         }
@@ -80,10 +81,8 @@ impl Counts {
         let mut at = at;
         let mut sum = 0;
         for level in &self.levels {
-            if at % 2 == 1 {
-                sum += level.get(at - 1);
-            }
-            at /= 2;
+            sum += level.sum_between(at - at % 64, at);
+            at /= 64;
         }
         sum
     }
@@ -98,12 +97,9 @@ impl Counts {
         let mut at = 0;
         let mut rest = n;
         for i in (0..self.levels.len()).rev() {
-            at = 2 * at;
-            let left = self.levels[i].get(at);
-            if left <= rest {
-                rest -= left;
-                at += 1;
-            }
+            let found = self.levels[i].find_from(64 * at, rest);
+            at = found.0;
+            rest = found.1;
         }
         at
     }
@@ -117,7 +113,7 @@ impl Counts {
         let mut at = at;
         for i in 0..self.levels.len() {
             self.levels[i].raise(at);
-            at /= 2;
+            at /= 64;
         }
     }
 
@@ -130,7 +126,7 @@ impl Counts {
         let mut at = at;
         for i in 0..self.levels.len() {
             self.levels[i].lower(at);
-            at /= 2;
+            at /= 64;
         }
     }
 }

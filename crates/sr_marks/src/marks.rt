@@ -2,34 +2,36 @@ ghost use Rattle.std.specs.Prelude.{◌≡◌, ◌+◌, ◌<◌, ◌≤◌, [], 
 ghost use Rattle.sr_marks.specs.Marks.{count_set, nth_set, next_set, rank_of};
 
 use crate::counts::Counts;
+use crate::tiers::Tiers;
 use std::alloc::{AllocError, Global};
 use std::marker::Model;
 
-// The greatest number of marks; with it no count passes a u32.
-const MOST_MARKS: usize = 0xffff_ffff;
-
-// How many marks the first memory has room for.
-const FIRST_ROOM: usize = 16;
+// The greatest number of marks, whole words of them; with it no count passes a u32.
+const MOST_MARKS: usize = 0xffff_ffc0;
 
 /// A growing list of marks. Its calls take logarithmic time, but for those that take memory.
 #[derive(Debug, Drop)]
 pub struct Marks {
-    marks: Vec<bool>,
-    // Each mark as 1 or 0, and zeros where marks can still be pushed.
+    // The marks, and unset ones where marks can still be pushed.
+    tiers: Tiers,
+    // How many marks of each word are set.
     counts: Counts,
+    // How many are pushed.
+    pushed: usize,
     // How many are set.
     set: usize,
 }
 
 impl Model for Marks {
-    ghost use Rattle.std.specs.Prelude.{◌-◌, length, vec_capacity};
-    ghost use Rattle.sr_marks.specs.Marks.{MarksView, AreCounted};
+    ghost use Rattle.std.specs.Prelude.{◌-◌, length, take};
+    ghost use Rattle.sr_marks.specs.Marks.{MarksView};
+    ghost use Rattle.sr_marks.specs.Words.{AreKept};
 
     ghost Value = { MarksView };
 
-    ghost view = { λ m. record { marks = m.marks.items; room = length m.counts - length m.marks.items } };
+    ghost view = { λ m. record { marks = take m.pushed m.tiers; room = length m.tiers - m.pushed } };
 
-    ghost invariant = { λ m. AreCounted m.marks.items (vec_capacity m.marks) m.counts m.set };
+    ghost invariant = { λ m. AreKept m.tiers m.pushed m.counts m.set };
 }
 
 impl Marks {
@@ -38,32 +40,33 @@ impl Marks {
         ensures { result.marks ≡ [] }
     {
         Marks {
-            marks: Vec::new(alloc),
+            tiers: Tiers::new(alloc),
             counts: Counts::new(alloc),
+            pushed: 0,
             set: 0,
         }
     }
 
-    /// Makes room for at least so many more marks. The Err comes for want of memory, and for 2^32 marks or more.
+    /// Makes room for at least so many more marks. The Err comes for want of memory, and for more than 2^32 - 64 marks.
     pub fn reserve(&mut self, alloc: Global, additional: usize) -> Result<(), AllocError>
         ensures marks { self.new.marks ≡ self.old.marks }
         ensures more { self.old.room ≤ self.new.room }
         ensures room { OnOk result (additional ≤ self.new.room) }
         ensures succeeds { additional ≤ self.old.room → IsOk result }
     {
-        let len = self.marks.len();
-        if additional <= self.counts.len() - len {
+        if additional <= self.tiers.len() - self.pushed {
             return Ok(());
         }
-        if additional > MOST_MARKS - len {
+        if additional > MOST_MARKS - self.pushed {
             return Err(AllocError);
         }
-        let capacity = (2 * len)
-            .max(FIRST_ROOM)
+        let capacity = (2 * self.pushed)
             .min(MOST_MARKS)
-            .max(len + additional);
-        self.marks.reserve(capacity - len)?;
-        self.counts = Counts::of(alloc, self.marks.as_slice(), capacity)?;
+            .max(self.pushed + additional);
+        let flags = self.tiers.grown(alloc, capacity.div_ceil(64))?;
+        let counts = Counts::of(alloc, &flags)?;
+        self.tiers = Tiers::over(alloc, flags)?;
+        self.counts = counts;
         Ok(())
     }
 
@@ -73,10 +76,11 @@ impl Marks {
         ensures marks { self.new.marks ≡ self.old.marks ++ mark ∷ [] }
         ensures room { self.new.room + 1 ≡ self.old.room }
     {
-        let at = self.marks.len();
-        self.marks.push_reserved(mark);
+        let at = self.pushed;
+        self.pushed += 1;
         if mark {
-            self.counts.raise(at);
+            self.tiers.put(at, true);
+            self.counts.raise(at / 64);
             self.set += 1;
         }
     }
@@ -87,15 +91,15 @@ impl Marks {
         ensures marks { self.new.marks ≡ slice_set self.old.marks at mark }
         ensures room { self.new.room ≡ self.old.room }
     {
-        if self.marks[at] == mark {
+        if self.tiers.get(at) == mark {
             return;
         }
-        self.marks[at] = mark;
+        self.tiers.put(at, mark);
         if mark {
-            self.counts.raise(at);
+            self.counts.raise(at / 64);
             self.set += 1;
         } else {
-            self.counts.lower(at);
+            self.counts.lower(at / 64);
             self.set -= 1;
         }
     }
@@ -105,14 +109,14 @@ impl Marks {
         requires { at < length self.now.marks }
         ensures { result ≡ slice_index_or self.now.marks at false }
     {
-        self.marks[at]
+        self.tiers.get(at)
     }
 
     /// How many marks there are.
     pub fn len(&self) -> usize
         ensures { result ≡ length self.now.marks }
     {
-        self.marks.len()
+        self.pushed
     }
 
     /// How many are set.
@@ -126,8 +130,8 @@ impl Marks {
     pub fn before(&self, at: usize) -> usize
         ensures { result ≡ rank_of at self.now.marks }
     {
-        if at < self.marks.len() {
-            self.counts.before(at) as usize
+        if at < self.tiers.len() {
+            self.counts.before(at / 64) as usize + self.tiers.count_before(at) as usize
         } else {
             self.set
         }
@@ -139,7 +143,9 @@ impl Marks {
         ensures within { IfSome result (λ at. at < length self.now.marks) }
     {
         if n < self.set {
-            Some(self.counts.find(n as u32))
+            let word = self.counts.find(n as u32);
+            let rest = n as u32 - self.counts.before(word);
+            Some(64 * word + self.tiers.nth_in_word(word, rest))
         } else {
             None
         }
@@ -150,6 +156,6 @@ impl Marks {
         ensures value { result ≡ next_set from self.now.marks }
         ensures within { IfSome result (λ at. at < length self.now.marks) }
     {
-        self.nth(self.before(from))
+        self.tiers.next(from)
     }
 }

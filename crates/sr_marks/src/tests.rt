@@ -1,6 +1,7 @@
-//! Worked rows, and a few hundred steps beside a plain list; each call that allocates succeeds here once.
-use crate::Marks;
+//! Worked rows, and a generator's steps beside the plain bodies; each call that allocates succeeds here once.
+use crate::{Marks, before_plain, next_plain, nth_plain};
 use std::alloc::{AllocError, Global};
+use std::process::Abort;
 use std::test::Fail;
 
 // The marks of a text: 1 for a set one.
@@ -62,20 +63,6 @@ fn set_and_taken_away(rt: HostRuntime) -> Result<(), Fail> {
     Ok(())
 }
 
-// The first set one from here on, and how many are set before it, by looking at each.
-fn looked_up(plain: &[bool], from: usize) -> (usize, Option<usize>) {
-    let mut before = 0usize;
-    for (at, mark) in plain.iter().enumerate() {
-        if at >= from && *mark {
-            return (before, Some(at));
-        }
-        if *mark {
-            before = before.saturating_add(1);
-        }
-    }
-    (before, None)
-}
-
 // Sets a mark in both, where there is one at this position.
 fn set_both(marks: &mut Marks, plain: &mut [bool], at: usize, mark: bool) {
     change(marks, at, mark);
@@ -84,29 +71,69 @@ fn set_both(marks: &mut Marks, plain: &mut [bool], at: usize, mark: bool) {
     }
 }
 
-#[test]
-fn beside_a_plain_list(rt: HostRuntime) -> Result<(), Fail> {
-    let mut marks = Marks::new(rt.alloc());
-    let mut plain = Vec::new(rt.alloc());
+// A number after another, as a generator gives them.
+fn drawn_after(drawn: u64) -> u64 {
+    drawn
+        .wrapping_mul(6364136223846793005)
+        .wrapping_add(1442695040888963407)
+}
+
+// Both lists answer alike about this position.
+fn compare(rt: &impl Abort, marks: &Marks, plain: &[bool], at: usize) -> Result<(), Fail> {
+    let before = before_plain(plain, at);
+    assert_eq!(rt;
+        (
+            marks.len(),
+            marks.before(at),
+            marks.next(at),
+            marks.nth(before)
+        ),
+        (
+            plain.len(),
+            before,
+            next_plain(plain, at),
+            nth_plain(plain, before)
+        )
+    );
+    Ok(())
+}
+
+// So many marks are pushed, set and taken away in a list that begins with so many unset ones.
+fn beside_a_plain_list(
+    rt: &impl Abort,
+    alloc: Global,
+    unset: usize,
+    steps: u32,
+) -> Result<(), Fail> {
+    let mut marks = Marks::new(alloc);
+    let mut plain = Vec::new(alloc);
+    for _ in 0..unset {
+        put(alloc, &mut marks, false)?;
+        plain.push(false)?;
+    }
     let mut drawn = 1u64;
-    for _ in 0..300u32 {
-        drawn = drawn
-            .wrapping_mul(6364136223846793005)
-            .wrapping_add(1442695040888963407);
+    for _ in 0..steps {
+        drawn = drawn_after(drawn);
         let at = (drawn >> 40) as usize % (plain.len() + 1);
         let mark = drawn >> 39 & 1 == 1;
         if drawn >> 38 & 1 == 1 {
-            put(rt.alloc(), &mut marks, mark)?;
+            put(alloc, &mut marks, mark)?;
             plain.push(mark)?;
         } else {
             set_both(&mut marks, plain.as_mut_slice(), at, mark);
         }
-        let (before, next) = looked_up(plain.as_slice(), at);
-        assert_eq!(rt;
-            (marks.before(at), marks.next(at), marks.nth(before)),
-            (before, next, next)
-        );
-        assert_eq!(rt; marks.len(), plain.len());
+        compare(rt, &marks, plain.as_slice(), at)?;
     }
     Ok(())
+}
+
+#[test]
+fn few_marks_beside_a_plain_list(rt: HostRuntime) -> Result<(), Fail> {
+    beside_a_plain_list(&rt, rt.alloc(), 0, 300)
+}
+
+// More than 64 words of 64, most of them without a mark.
+#[test]
+fn many_marks_beside_a_plain_list(rt: HostRuntime) -> Result<(), Fail> {
+    beside_a_plain_list(&rt, rt.alloc(), 9000, 200)
 }

@@ -126,6 +126,18 @@ fn front(alloc: Global, word: &str) -> Result<Vec<u8>, AllocError> {
     Ok(bytes)
 }
 
+/// A capture of the SYNs of these clients, all at time 0.
+pub fn openers(alloc: Global, clients: &[u32]) -> Result<Vec<u8>, AllocError> {
+    let mut bytes = Vec::from_slice(alloc, &HEADER)?;
+    for client in clients {
+        bytes.extend_from_slice(&RECORD)?;
+        bytes.extend_from_slice(&SYN[..12])?;
+        bytes.extend_from_slice(&client.to_be_bytes())?;
+        bytes.extend_from_slice(&SYN[16..])?;
+    }
+    Ok(bytes)
+}
+
 /// The capture of these words: `raw syn data`, `tagged 2`, `header 0=213`, `zeros 40 0`, `ethernet 14` or `front 33`.
 pub fn capture(alloc: Global, words: &str) -> Result<Vec<u8>, AllocError> {
     let (form, rest) = words.split_once(' ').unwrap_or((words, ""));

@@ -57,8 +57,8 @@ pub fn row_of(input: &[u8], piece: usize) -> Row<'_> {
     }
 }
 
-// The words, each a text of its own.
-fn owned(alloc: Global, words: &str) -> Result<Vec<String>, AllocError> {
+/// The words, each a text of its own.
+pub fn owned(alloc: Global, words: &str) -> Result<Vec<String>, AllocError> {
     let mut all = Vec::new(alloc);
     if !words.is_empty() {
         for word in words.split('|') {

@@ -1,39 +1,18 @@
-//! Captures that are played by a script, in order (`replay`) and step by step (`steps`): over the narrow scene, and over the same with a
-//! change and with eight pipes.
+//! Captures that are played by a script, in threads (`replay`) and step by step (`steps`): over the narrow scene, and over the same with a
+//! change and with eight pipes. Of a replay is asked what it has whatever the threads do.
 use crate::audit::{SCENE, is_lawful};
 use crate::bytes::capture;
-use crate::play::{READ_FAULT, Row, first_run, is_cut_short, row_of, told_over, told_with};
+use crate::play::{
+    READ_FAULT, Row, WRITE_FAULT, first_run, is_cut_short, row_of, told_over, told_with,
+};
 use crate::scripts::scene_with;
 use sr_io::{MemShelf, MemSink};
 use std::alloc::{AllocError, Global};
 use std::test::Fail;
 use std::thread::Threads;
 
-// Words and captures, and then what is told. The ticks of `steps` are those of a model of one connection over this scene, made for these rows;
-// those of `replay` follow from the order: packets whole, and then a tick for the reservation, one for its grace, and one for the place.
-const ROWS: &str = "replay|scene
-raw syn data
-silkroad 1
-give 1 0 0 1
-packet 1 2 3 0 0/10.0.0.9:4000 open to 0 0 1
-packet 2 4 5 0 0/10.0.0.9:4000 data to 0 0 1
-reserve 6 0/10.0.0.9:4000 w1b0c0
-place 8 0/10.0.0.9:4000 w1b0c0
-exit 0
-==
-replay|scene
-raw 9=17 19=2
-silkroad 1
-skip 1 nottcp
-skip 2 notvip
-give 1 0 0 1
-exit 0
-==
-replay|scene
-header 0=213
-exit 3 silkroad: capture: magic
-==
-steps|scene|1
+// Words and captures, and then what is told of `steps`. The ticks are those of a model of one connection over this scene, made for these rows.
+const ROWS: &str = "steps|scene|1
 raw syn data
 silkroad 1
 give 1 0 0 1
@@ -77,15 +56,56 @@ header 0=213
 exit 3 silkroad: capture: magic
 ";
 
-// What is printed of the first run in order, and by the picks of seed 1.
-const REPLAYED: &str = "silkroad 1
-give 1 0 0 1
-packet 1 2 3 0 0/10.0.0.9:4000 open to 0 0 1
-packet 2 4 5 0 0/10.0.0.9:4000 data to 0 0 1
-reserve 6 0/10.0.0.9:4000 w1b0c0
-place 8 0/10.0.0.9:4000 w1b0c0
+// Captures, and then the lines of their replay over the scene, in whatever order: each as what stands before its ticks, a `#` for these, and
+// what stands after them. The last line is what is told at the end.
+const REPLAYS: &str = "raw syn data
+silkroad 1
+give # 0 0 1
+packet 1 # 0 0/10.0.0.9:4000 open to 0 0 1
+packet 2 # 0 0/10.0.0.9:4000 data to 0 0 1
+reserve # 0/10.0.0.9:4000 w1b0c0
+place # 0/10.0.0.9:4000 w1b0c0
+exit 0
+==
+raw syn 0=79 0=68
+silkroad 1
+skip 2 short
+skip 3 short
+give # 0 0 1
+packet 1 # 0 0/10.0.0.9:4000 open to 0 0 1
+reserve # 0/10.0.0.9:4000 w1b0c0
+place # 0/10.0.0.9:4000 w1b0c0
+exit 0
+==
+raw 9=17 19=2
+silkroad 1
+skip 1 nottcp
+skip 2 notvip
+give # 0 0 1
+exit 0
 ";
 
+// What is told of the replay of the first run without its last byte: the whole record before was played.
+const REPLAY_CUT: &str = "silkroad 1
+give # 0 0 1
+packet 1 # 0 0/10.0.0.9:4000 open to 0 0 1
+reserve # 0/10.0.0.9:4000 w1b0c0
+place # 0/10.0.0.9:4000 w1b0c0
+exit 3 silkroad: capture: cut at 80
+";
+
+// What is printed of the replay of the first run.
+const REPLAYED: &str = "silkroad 1
+give # 0 0 1
+packet 1 # 0 0/10.0.0.9:4000 open to 0 0 1
+packet 2 # 0 0/10.0.0.9:4000 data to 0 0 1
+reserve # 0/10.0.0.9:4000 w1b0c0
+place # 0/10.0.0.9:4000 w1b0c0
+";
+
+const BAD_MAGIC: &str = "exit 3 silkroad: capture: magic\n";
+
+// What is printed of the first run by the picks of seed 1.
 const PICKED: &str = "silkroad 1
 give 1 0 0 1
 packet 1 2 3 0 0/10.0.0.9:4000 open to 0 0 1
@@ -109,12 +129,17 @@ exit 3 silkroad: capture: cut at 80
 
 const NO_SERVER: &str = "exit 2 silkroad: script: no-such-server vip[0].pool[0]\n";
 
-// Six openers on six of eight pipes, of which four find a row; the fifth in the order of the pipes is waited for.
+// Six openers on six of eight pipes, of which four find a row.
 const SIX: &str = "raw 15=9 15=10 15=11 15=12 15=13 15=14";
 
 const CHANGE: &str = "[[change]]\nat_ms = 0\nvip = 0\npool = [1]\n";
 
 const WAITING: &[u8] = b"exit 7 silkroad: waiting for 0/10.0.0.12:4000\n";
+
+// What is told where a key is waited for, before the key, and where none is.
+const WAITS: &[u8] = b"exit 7 silkroad: waiting for 0/10.0.0.";
+
+const DONE: &[u8] = b"exit 0\n";
 
 // Six openers and a data segment, and where its record has its fraction of a second.
 const SIX_AND_DATA: &str = "raw syn 15=10 15=11 15=12 15=13 15=14 data";
@@ -123,10 +148,7 @@ const FRACTION: usize = 364;
 
 const LATE_CHANGE: &str = "[[change]]\nat_ms = 1\nvip = 0\npool = [1]\n";
 
-const LATE_WAITING: &[u8] = b"exit 7 silkroad: waiting for 0/10.0.0.13:4000\n";
-
-const RUNS: &str = "replay|scene
-steps|scene|1
+const RUNS: &str = "steps|scene|1
 steps|scene|2
 steps|scene|3
 steps|scene|4
@@ -168,12 +190,90 @@ fn captures(rt: HostRuntime) -> Result<(), Fail> {
     Ok(())
 }
 
-// Whether the first record alone is played of a capture whose second is cut.
-fn tells_cut<R: Threads + Sync>(rt: &R, alloc: Global, words: &str) -> Result<bool, AllocError> {
+// Whether a line has what stands before and after the ticks of another.
+fn is_line(line: &[u8], wanted: &str) -> bool {
+    match wanted.split_once('#') {
+        Some((front, back)) => {
+            line.len() > wanted.len().saturating_sub(1)
+                && line.starts_with(front.as_bytes())
+                && line.ends_with(back.as_bytes())
+        }
+        None => line == wanted.as_bytes(),
+    }
+}
+
+// How many lines are such a line.
+fn count_of(told: &[u8], wanted: &str) -> u64 {
+    let mut count: u64 = 0;
+    for line in told.split(|byte| *byte == b'\n') {
+        if is_line(line, wanted) {
+            count = count.saturating_add(1);
+        }
+    }
+    count
+}
+
+// Whether these lines, and no others, are told, in whatever order and with whatever ticks.
+fn is_replay(told: &[u8], wanted: &str) -> bool {
+    let mut lines: u64 = 0;
+    for line in wanted.split('\n') {
+        if count_of(told, line) != 1 {
+            return false;
+        }
+        lines = lines.saturating_add(1);
+    }
+    told.split(|byte| *byte == b'\n').count() as u64 == lines
+}
+
+// Whether a replay has its lines, and is lawful.
+fn replays_row<R: Threads + Sync>(rt: &R, alloc: Global, row: &str) -> Result<bool, AllocError> {
+    let (segments, wanted) = row.split_once('\n').unwrap_or((row, ""));
+    let input = capture(alloc, segments)?;
+    let told = told_with(rt, alloc, play_row(REPLAY, &input), SCENE.as_bytes())?;
+    let lawful = is_lawful(rt, alloc, SCENE.as_bytes(), log_of(told.bytes()))?;
+    Ok(lawful && is_replay(told.bytes(), wanted))
+}
+
+// The first replay that has other lines, or isn't lawful. Empty where there is none.
+fn misplayed<R: Threads + Sync>(rt: &R, alloc: Global) -> Result<&'static str, AllocError> {
+    for row in REPLAYS.split("==\n") {
+        if !replays_row(rt, alloc, row)? {
+            return Ok(row);
+        }
+    }
+    Ok("")
+}
+
+// Whether a replay tells of a header that is refused, and of nothing else.
+fn refuses_header<R: Threads + Sync>(rt: &R, alloc: Global) -> Result<bool, AllocError> {
+    let input = capture(alloc, "header 0=213")?;
+    let told = told_with(rt, alloc, play_row(REPLAY, &input), SCENE.as_bytes())?;
+    Ok(told.bytes() == BAD_MAGIC.as_bytes())
+}
+
+#[test]
+fn replays(rt: HostRuntime) -> Result<(), Fail> {
+    assert_eq!(rt; misplayed(&rt, rt.alloc())?, "");
+    assert!(rt; refuses_header(&rt, rt.alloc())?, "a header is refused");
+    Ok(())
+}
+
+// What is told of the first run without its last byte.
+fn told_of_cut<R: Threads + Sync>(
+    rt: &R,
+    alloc: Global,
+    words: &str,
+) -> Result<MemSink, AllocError> {
     let input = first_run(alloc)?;
     let cut = &input[..input.len().saturating_sub(1)];
-    let told = told_with(rt, alloc, play_row(words, cut), SCENE.as_bytes())?;
-    Ok(told.bytes() == CUT_TOLD.as_bytes())
+    told_with(rt, alloc, play_row(words, cut), SCENE.as_bytes())
+}
+
+// Whether the first record alone is played of a capture whose second is cut.
+fn tells_cut<R: Threads + Sync>(rt: &R, alloc: Global) -> Result<bool, AllocError> {
+    let told = told_of_cut(rt, alloc, STEPS)?;
+    let replayed = told_of_cut(rt, alloc, REPLAY)?;
+    Ok(told.bytes() == CUT_TOLD.as_bytes() && is_replay(replayed.bytes(), REPLAY_CUT))
 }
 
 // Whether a refused script is told, of a capture that is refused too.
@@ -185,8 +285,8 @@ fn tells_script<R: Threads + Sync>(rt: &R, alloc: Global, words: &str) -> Result
 
 #[test]
 fn refusals(rt: HostRuntime) -> Result<(), Fail> {
+    assert!(rt; tells_cut(&rt, rt.alloc())?, "a record is cut");
     for words in [REPLAY, STEPS].iter() {
-        assert!(rt; tells_cut(&rt, rt.alloc(), words)?, "a record is cut");
         assert!(rt;
             tells_script(&rt, rt.alloc(), words)?,
             "a script is refused"
@@ -218,12 +318,34 @@ fn tells_read_fault<R: Threads + Sync>(
     Ok(told.bytes() == READ_FAULT.as_bytes())
 }
 
+// Whether lines of the first run's replay were printed, each whole, and then the sink failed. The last may be cut short.
+fn is_replay_cut_short(told: &[u8]) -> bool {
+    let Some(front) = told.strip_suffix(WRITE_FAULT.as_bytes()) else {
+        return false;
+    };
+    let mut lines: u64 = 0;
+    for wanted in REPLAYED.split('\n') {
+        if !wanted.is_empty() {
+            lines = lines.saturating_add(count_of(front, wanted));
+        }
+    }
+    front.split(|byte| *byte == b'\n').count() as u64 <= lines.saturating_add(1)
+}
+
+// Whether a run that was cut short by the sink is told so.
+fn is_cut_so(words: &str, told: &[u8]) -> bool {
+    if words == REPLAY {
+        is_replay_cut_short(told)
+    } else {
+        is_cut_short(told, PICKED)
+    }
+}
+
 // The sink takes the head and five lines, and is flushed. The first call whose fault isn't told.
 fn passed_over_write<R: Threads + Sync>(
     rt: &R,
     alloc: Global,
     words: &str,
-    log: &str,
 ) -> Result<Option<u64>, AllocError> {
     let input = first_run(alloc)?;
     for k in 1..=7 {
@@ -232,7 +354,7 @@ fn passed_over_write<R: Threads + Sync>(
             ..play_row(words, &input)
         };
         let told = told_with(rt, alloc, row, SCENE.as_bytes())?;
-        if !is_cut_short(told.bytes(), log) {
+        if !is_cut_so(words, told.bytes()) {
             return Ok(Some(k));
         }
     }
@@ -244,17 +366,12 @@ fn devices(rt: HostRuntime) -> Result<(), Fail> {
     for words in [REPLAY, STEPS].iter() {
         assert!(rt; lacks_script(&rt, rt.alloc(), words)?, "no script");
         assert!(rt; tells_read_fault(&rt, rt.alloc(), words)?, "a read fails");
+        assert_eq!(rt;
+            passed_over_write(&rt, rt.alloc(), words)?,
+            None,
+            "a write fails"
+        );
     }
-    assert_eq!(rt;
-        passed_over_write(&rt, rt.alloc(), REPLAY, REPLAYED)?,
-        None,
-        "a write fails"
-    );
-    assert_eq!(rt;
-        passed_over_write(&rt, rt.alloc(), STEPS, PICKED)?,
-        None,
-        "a write fails"
-    );
     Ok(())
 }
 
@@ -294,14 +411,35 @@ fn six_and_data(alloc: Global) -> Result<Vec<u8>, AllocError> {
     Ok(input)
 }
 
-// Whether a replay over one pipe, with a change that comes due at the data segment, waits for the fifth key, and its log is lawful.
+// Whether a run ended well: no key is waited for, or one of the clients' is.
+fn ends_well(told: &[u8]) -> bool {
+    let end = &told[log_of(told).len().min(told.len())..];
+    end == DONE || end.starts_with(WAITS)
+}
+
+// Whether a log has so many lines of packets.
+fn has_packets(log: &[u8], packets: u64) -> bool {
+    count_of(log, "packet #") == packets
+}
+
+// Whether a replay of six openers in one round ends well, each with its line, and its log is lawful, whatever the threads did.
+fn replays_six<R: Threads + Sync>(rt: &R, alloc: Global) -> Result<bool, AllocError> {
+    let script = wide_scene(alloc)?;
+    let told = told_of_six(rt, alloc, REPLAY, &script)?;
+    let log = log_of(told.bytes());
+    let lawful = is_lawful(rt, alloc, &script, log)?;
+    Ok(lawful && has_packets(log, 6) && ends_well(told.bytes()))
+}
+
+// Whether so does a replay over one pipe, with a change that comes due at a data segment after them.
 fn replays_change<R: Threads + Sync>(rt: &R, alloc: Global) -> Result<bool, AllocError> {
     let mut script = Vec::from_slice(alloc, SCENE.as_bytes())?;
     script.extend_from_slice(LATE_CHANGE.as_bytes())?;
     let input = six_and_data(alloc)?;
     let told = told_with(rt, alloc, play_row(REPLAY, &input), &script)?;
-    let lawful = is_lawful(rt, alloc, &script, log_of(told.bytes()))?;
-    Ok(lawful && told.bytes().ends_with(LATE_WAITING))
+    let log = log_of(told.bytes());
+    let lawful = is_lawful(rt, alloc, &script, log)?;
+    Ok(lawful && has_packets(log, 7) && ends_well(told.bytes()))
 }
 
 // What was printed, of what is told.
@@ -330,7 +468,7 @@ fn six_openers(rt: HostRuntime) -> Result<(), Fail> {
         waits(&rt, rt.alloc(), "steps|scene|2")?,
         "a key is waited for"
     );
-    assert!(rt; waits(&rt, rt.alloc(), REPLAY)?, "a key is waited for");
+    assert!(rt; replays_six(&rt, rt.alloc())?, "openers in one round");
     assert!(rt; replays_change(&rt, rt.alloc())?, "a change comes due late");
     assert_eq!(rt; unlawful(&rt, rt.alloc())?, "");
     Ok(())

@@ -26,6 +26,11 @@ make|1|0
 make|+1|5
 make|1|4194305
 make|18446744073709551616|1
+demo
+demo|x
+demo|-1
+demo|1|2
+demo|18446744073709551616
 steps
 steps|scene
 steps|scene|-1

@@ -6,7 +6,7 @@ use Rattle.std.specs.List.{list_any, slice_split}
 use Rattle.std.proofs.lemmas.Bool.{and_parts}
 use Rattle.std.proofs.lemmas.Option.{cond_some}
 use Rattle.sr_script.specs.Address.{address_of}
-use Rattle.sr_run.specs.Command.{Command, One, Make, Audit, Replay, Steps, IsInRange, begins_with_dash, command_of, command_of_plain, make_of, one_of, steps_of}
+use Rattle.sr_run.specs.Command.{Command, One, Make, Audit, Replay, Steps, Demo, IsInRange, begins_with_dash, command_of, command_of_plain, demo_of, make_of, one_of, steps_of}
 use Rattle.sr_run.specs.Numbers.{count_of_packets, number_of, packets_in}
 use Rattle.sr_run.specs.Servers.{addresses_of, all_differ, counted, count_of_servers}
 
@@ -59,6 +59,10 @@ steps_some : (script : List ℕ) (seed : Option ℕ) (c : Command) → option_ma
 steps_some script None c e = absurd cc
 steps_some script (Some n) c e = let same : Steps script n ≡ c = cc in subst IsInRange same tt
 
+demo_some : (number : Option ℕ) (c : Command) → option_map (λ n. Demo n) number ≡ Some c → IsInRange c
+demo_some None c e = absurd cc
+demo_some (Some n) c e = let same : Demo n ≡ c = cc in subst IsInRange same tt
+
 either_some : (test : Bool) (a b : Option Command) (c : Command) → ((d : Command) → a ≡ Some d → IsInRange d) → ((d : Command) → b ≡ Some d → IsInRange d) → cond test a b ≡ Some c → IsInRange c
 either_some true a b c first second e = first c e
 either_some false a b c first second e = second c e
@@ -68,7 +72,8 @@ plain_some [] c e = absurd cc
 plain_some (a ∷ []) c e = absurd cc
 plain_some (name ∷ script ∷ []) c e =
     either_some (bytes_eq name (codes "replay")) (Some (Replay script)) _ c (λ d f. replay_some script d f)
-    (λ d f. either_some (bytes_eq name (codes "audit")) (Some (Audit script)) None d (λ h k. audit_some script h k) (λ h k. absurd cc) f) e
+    (λ d f. either_some (bytes_eq name (codes "audit")) (Some (Audit script)) _ d (λ h k. audit_some script h k)
+    (λ h k. either_some (bytes_eq name (codes "demo")) (demo_of script) None h (λ i m. demo_some (number_of script) i m) (λ i m. absurd cc) k) f) e
 plain_some (name ∷ first ∷ second ∷ []) c e =
     either_some (bytes_eq name (codes "one")) (one_of first second) _ c
     (λ d f. one_some (address_of first) (count_of_servers second) d (count_some second) f)

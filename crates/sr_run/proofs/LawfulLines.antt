@@ -44,7 +44,7 @@ use Rattle.sr_capture.specs.Capture.{capture_of}
 use Rattle.sr_capture.specs.Clock.{new_clock}
 use Rattle.sr_capture.specs.Records.{Records}
 use Rattle.sr_text.specs.LineText.{log_text}
-use Rattle.sr_run.proofs.FrameVips.{AllFirstVip, packets_first}
+use Rattle.sr_played.proofs.FrameVips.{AllFirstVip, packets_first}
 
 -- ---- what is true of the lines so far, the newest first
 

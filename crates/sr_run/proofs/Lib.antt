@@ -2,14 +2,13 @@ mod AddressLists
 mod AuditedLines
 mod Auditing
 mod CommandServers
+mod Completing
+mod Demonstrating
 mod Digits
-mod FrameVips
 mod LawfulLines
 mod Parts
 mod PrintedLines
-mod Rarely
 mod Running
 mod Sorting
 mod Stepping
-mod Taking
 mod Writing

@@ -12,7 +12,7 @@ use Rattle.clap.specs.declared.builder.command.Command.{Command}
 use Rattle.clap.specs.declared.parser.matches.Found.{Found}
 use Rattle.clap.proofs.WalkLemmas.{first_value-rows}
 use Rattle.clap.proofs.OnLiterals.{clap_on_literals}
-use Rattle.sr_run.specs.Command.{IsCommand, begins_with_dash, command_of, command_of_plain, command_of_two, command_of_three, Audit, Replay, make_of, one_of, steps_of}
+use Rattle.sr_run.specs.Command.{IsCommand, begins_with_dash, command_of, command_of_plain, command_of_two, command_of_three, Audit, Replay, demo_of, make_of, one_of, steps_of}
 use Rattle.sr_run.specs.Parting.{before, command_of_form, form_of, parts_of, program, texts, values_of, with_arguments, with_forms}
 
 -- the library takes these words, and its parts are the words
@@ -91,12 +91,25 @@ unfolding clap_on_literals
 replay_same [] e = refl
 replay_same (x ∷ script) e = simp e
 
+demo_taken : (number : List ℕ) → begins_with_dash number ≡ false → takes program (codes "demo" ∷ number ∷ []) ≡ true
+unfolding clap_on_literals
+demo_taken [] e = refl
+demo_taken (x ∷ number) e = simp e
+
+demo_same : (number : List ℕ) → begins_with_dash number ≡ false → parts_of (subcommand_of program (codes "demo" ∷ number ∷ [])) ≡ codes "demo" ∷ number ∷ []
+unfolding clap_on_literals
+demo_same [] e = refl
+demo_same (x ∷ number) e = simp e
+
 -- the commands of one argument
 replay_parts : (script : List ℕ) → begins_with_dash script ≡ false → Parts (codes "replay" ∷ script ∷ [])
 replay_parts script e = record { taken = replay_taken script e; same = replay_same script e }
 
 audit_parts : (script : List ℕ) → begins_with_dash script ≡ false → Parts (codes "audit" ∷ script ∷ [])
 audit_parts script e = record { taken = audit_taken script e; same = audit_same script e }
+
+demo_parts : (number : List ℕ) → begins_with_dash number ≡ false → Parts (codes "demo" ∷ number ∷ [])
+demo_parts number e = record { taken = demo_taken number e; same = demo_same number e }
 
 -- the commands of two arguments
 one_parts : (first second : List ℕ) → begins_with_dash first ≡ false → begins_with_dash second ≡ false → Parts (codes "one" ∷ first ∷ second ∷ [])
@@ -115,12 +128,18 @@ named name known arguments e parts = subst (λ n. Parts (n ∷ arguments)) (sym 
 two_parts : (name script : List ℕ) → begins_with_dash script ≡ false → IsSome (command_of_two name script) → Parts (name ∷ script ∷ [])
 two_parts name script e some = is_replay (bytes_eq name (codes "replay")) refl some
   where
-    is_audit : (b : Bool) → bytes_eq name (codes "audit") ≡ b → IsSome (cond b (Some (Audit script)) None) → Parts (name ∷ script ∷ [])
+    is_demo : (b : Bool) → bytes_eq name (codes "demo") ≡ b → IsSome (cond b (demo_of script) None) → Parts (name ∷ script ∷ [])
+    is_demo true same some = named name (codes "demo") (script ∷ []) same (demo_parts script e)
+    is_demo false other some = absurd (false≢true some)
+
+    is_audit : (b : Bool) → bytes_eq name (codes "audit") ≡ b
+        → IsSome (cond b (Some (Audit script)) (cond (bytes_eq name (codes "demo")) (demo_of script) None)) → Parts (name ∷ script ∷ [])
     is_audit true same some = named name (codes "audit") (script ∷ []) same (audit_parts script e)
-    is_audit false other some = absurd (false≢true some)
+    is_audit false other some = is_demo (bytes_eq name (codes "demo")) refl some
 
     is_replay : (b : Bool) → bytes_eq name (codes "replay") ≡ b
-        → IsSome (cond b (Some (Replay script)) (cond (bytes_eq name (codes "audit")) (Some (Audit script)) None)) → Parts (name ∷ script ∷ [])
+        → IsSome (cond b (Some (Replay script))
+        (cond (bytes_eq name (codes "audit")) (Some (Audit script)) (cond (bytes_eq name (codes "demo")) (demo_of script) None))) → Parts (name ∷ script ∷ [])
     is_replay true same some = named name (codes "replay") (script ∷ []) same (replay_parts script e)
     is_replay false other some = is_audit (bytes_eq name (codes "audit")) refl some
 

@@ -1,5 +1,5 @@
 -- What each status of a command that plays a capture says, put together from its parts.
-use Rattle.std.proofs.Common.{◌≡◌, ℕ, List, [], map, Option, Some, None, Result, Ok, Err, refl, sym, ap, subst, inl, inr}
+use Rattle.std.proofs.Common.{◌≡◌, ℕ, List, [], Option, Some, None, Result, Ok, Err, refl, sym, ap, ◌∙◌, subst, inl, inr}
 use Rattle.sr_base.specs.Key.{KeyView}
 use Rattle.sr_capture.specs.Capture.{Keeps, Reads, capture_of}
 use Rattle.sr_capture.specs.Records.{Records}
@@ -10,13 +10,14 @@ use Rattle.sr_io.specs.Sink.{SinkKnown, Adds}
 use Rattle.sr_io.specs.Source.{SourceKnown}
 use Rattle.sr_io.proofs.Adding.{adds_nothing}
 use Rattle.sr_io.proofs.Counting.{counts_as, counts_none}
-use Rattle.sr_inv_entered.specs.Entered.{AreTakable}
-use Rattle.sr_law.proofs.Kept.{kept}
-use Rattle.sr_law.proofs.Switches.{newer}
+use Rattle.sr_inv_entered.specs.Entered.{AreTakable, given}
+use Rattle.sr_inv_final.specs.Rest.{setup_with}
 use Rattle.sr_law.specs.Lawful.{IsLawful}
 use Rattle.sr_law.specs.declared.line.Line.{Line}
 use Rattle.sr_pcap.specs.declared.begin_refusal.BeginRefusal.{BeginRefusal}
 use Rattle.sr_pcap.specs.declared.begin_refusal.BeginRefusal.TheVariants as begin
+use Rattle.sr_played.proofs.Playing.{played}
+use Rattle.sr_played.specs.Captured.{played_packets, timed}
 use Rattle.sr_rounds.specs.declared.timed.Timed.{Timed}
 use Rattle.sr_script.specs.Fitting.{IsFitting}
 use Rattle.sr_script.specs.Spelled.{Spelled}
@@ -24,15 +25,11 @@ use Rattle.sr_script.specs.declared.script.Script.{Script as AScript}
 use Rattle.sr_script.specs.declared.refusal.ScriptRefusal.{ScriptRefusal}
 use Rattle.sr_scripted.specs.Config.{config_of}
 use Rattle.sr_run.specs.Capture.{header_refusal, status_without}
-use Rattle.sr_run.proofs.Taking.{takable}
-use Rattle.sr_run.specs.LawfulLog.{IsLawfulLog}
 use Rattle.sr_run.specs.Outside.{Outside, WritesNothing}
-use Rattle.sr_run.proofs.Rarely.{rarely}
-use Rattle.sr_run.specs.RareLog.{IsRareLog}
-use Rattle.sr_run.specs.SettledLog.{IsSettledLog}
 use Rattle.sr_scripted.specs.Played.{AreSettled}
 use Rattle.sr_run.specs.ScriptText.{IsScript, Fetches, IsReady}
-use Rattle.sr_run.specs.Played.{EndsCapture, EndsPlay, IsLogOf, IsRunOf, MadeBy, PlaysCapture, PlaysCaptured, PlaySays, status_after, played_packets, played_setup, played_skips, timed}
+use Rattle.sr_run.specs.Played.{EndsCapture, EndsPlay, IsLogOf, IsRunOf, MadeBy, PlaysCapture, PlaysCaptured, PlaySays, status_after}
+use Rattle.sr_text.specs.LineText.{log_text}
 use Rattle.sr_run.specs.declared.status.Status.{Status}
 use Rattle.sr_run.specs.declared.way.Way.{Way}
 use Rattle.sr_run.specs.declared.way.Way.TheVariants as ways
@@ -63,48 +60,36 @@ unread_ends begin.Memory = tt
 
 -- ---- a capture that was read, and played
 
--- the lines are lawful in whichever way they are made
-made_lawful : (way : Way) (s : Spelled) (records : Records) (lines : List Line) (awaited : Option KeyView)
-    → MadeBy way s (played_packets s records) lines awaited → AreTakable (config_of s) (played_packets s records)
-    → IsLawful (played_setup s records) lines
-made_lawful (ways.Picked seed) s records lines awaited h = h.lawful
-made_lawful ways.InOrder s records lines awaited h = h.lawful
+-- the lines are lawful, if the machine can take the packets, in whichever way they are made
+made_lawful : (way : Way) (s : Spelled) (packets : List Timed) (lines : List Line) (awaited : Option KeyView)
+    → MadeBy way s packets lines awaited → AreTakable (config_of s) packets
+    → IsLawful (setup_with (config_of s) (given packets)) lines
+made_lawful (ways.Picked seed) s packets lines awaited h = h.lawful
+made_lawful ways.OnThreads s packets lines awaited h = h.lawful
 
 -- and settled
 made_settled : (way : Way) (s : Spelled) (packets : List Timed) (lines : List Line) (awaited : Option KeyView) → MadeBy way s packets lines awaited
     → AreSettled s packets lines awaited
 made_settled (ways.Picked seed) s packets lines awaited h = h.settled
-made_settled ways.InOrder s packets lines awaited h = h.settled
+made_settled ways.OnThreads s packets lines awaited h = h.settled
 
 module _ (s : Spelled) (way : Way) (xs : List ℕ) (captured : Captured Timed) (records : Records) (taken : capture_of xs ≡ Ok records)
     (source : SourceKnown) (keeps : Keeps timed s.vips records source.left captured) (fits : IsFitting s) where
-  -- a log of the run has lawful lines
-  lawful_log : (awaited : Option KeyView) (log : List ℕ) → IsLogOf s way (played_skips s records) (played_packets s records) awaited log
-      → IsLawfulLog (played_setup s records) (played_skips s records) log
-  lawful_log awaited log is =
-      let h = made_lawful way s records is.lines awaited is.plays (takable s xs records fits taken) in
-      record { lines = is.lines; printed = is.printed; lawful = h; kept = kept _ _ is.lines h.0; newer = newer _ _ is.lines h.0 }
-
-  -- and settled ones
-  settled_log : (awaited : Option KeyView) (log : List ℕ) → IsLogOf s way (played_skips s records) (played_packets s records) awaited log
-      → IsSettledLog s (played_skips s records) (played_packets s records) awaited log
-  settled_log awaited log is =
-      record { lines = is.lines; printed = is.printed; settled = made_settled way s (played_packets s records) is.lines awaited is.plays }
-
-  -- and no rare verdict without its reason
-  rare_log : (awaited : Option KeyView) (log : List ℕ) → IsLogOf s way (played_skips s records) (played_packets s records) awaited log
-      → IsRareLog s (played_skips s records) (played_packets s records) awaited log
-  rare_log awaited log is =
-      rarely s (played_packets s records) (map (λ t. t.packet) (played_packets s records)) is.lines (made_lawful way s records is.lines awaited is.plays (takable s xs records fits taken))
-      (played_skips s records) awaited log is.printed (made_settled way s (played_packets s records) is.lines awaited is.plays)
-
   -- the log of what was kept is that of the run
   run_of : (awaited : Option KeyView) (log : List ℕ) → IsLogOf s way captured.skips.items captured.packets.items awaited log
       → IsRunOf s way xs captured.ending awaited log
   run_of awaited log is =
-      let whole = subst (λ k. IsLogOf s way k (played_packets s records) awaited log) keeps.skips
-      (subst (λ k. IsLogOf s way captured.skips.items k awaited log) keeps.packets is) in
-      record { records = records; taken = taken; ended = sym keeps.ending; is_log = whole; lawful = lawful_log awaited log whole; settled = settled_log awaited log whole; rare = rare_log awaited log whole }
+      let made = subst (λ packets. MadeBy way s packets is.lines awaited) keeps.packets is.plays in record {
+        records = records;
+        taken = taken;
+        ended = sym keeps.ending;
+        lines = is.lines;
+        plays = made;
+        told = played s xs records is.lines awaited fits taken
+            (made_lawful way s (played_packets s records) is.lines awaited made)
+            (made_settled way s (played_packets s records) is.lines awaited made);
+        printed = is.printed ∙ ap (λ skips. log_text skips is.lines) keeps.skips;
+      }
 
   run_with : (ending : Option CaptureRefusal) (awaited : Option KeyView) (log : List ℕ) → captured.ending ≡ ending
       → IsLogOf s way captured.skips.items captured.packets.items awaited log → IsRunOf s way xs ending awaited log

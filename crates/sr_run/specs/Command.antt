@@ -10,13 +10,14 @@ use Rattle.sr_run.specs.declared.command.Command.{Command as Read}
 use Rattle.sr_run.specs.declared.command.Command.TheVariants as read
 
 -- what the words ask for: an address, and how many servers share it; a number, and how many packets; the name of a script, to
--- replay a capture by or to judge a log by, and with it the seed of a run's picks
+-- replay a capture by or to judge a log by, and with it the seed of a run's picks; the number of a demonstration
 pub data Command : Type 0 where
   One : ℕ × ℕ → ℕ → Command
   Make : ℕ → ℕ → Command
   Replay : List ℕ → Command
   Audit : List ℕ → Command
   Steps : List ℕ → ℕ → Command
+  Demo : ℕ → Command
 
 -- one VIP SERVERS
 abbrev pub one_of : List ℕ → List ℕ → Option Command
@@ -30,11 +31,16 @@ make_of number packets = option_and_then (λ n. option_map (λ p. Make n p) (cou
 abbrev pub steps_of : List ℕ → List ℕ → Option Command
 steps_of script seed = option_map (λ n. Steps script n) (number_of seed)
 
--- the command of two words: replay SCRIPT, audit SCRIPT
+-- demo N
+abbrev pub demo_of : List ℕ → Option Command
+demo_of number = option_map (λ n. Demo n) (number_of number)
+
+-- the command of two words: replay SCRIPT, audit SCRIPT, demo N
 abbrev pub command_of_two : List ℕ → List ℕ → Option Command
 command_of_two name script =
     if bytes_eq name (codes "replay") then Some (Replay script)
-    else (if bytes_eq name (codes "audit") then Some (Audit script) else None)
+    else (if bytes_eq name (codes "audit") then Some (Audit script) else
+    (if bytes_eq name (codes "demo") then demo_of script else None))
 
 -- the command of three words
 abbrev pub command_of_three : List ℕ → List ℕ → List ℕ → Option Command
@@ -69,6 +75,7 @@ seen (read.Make number packets) = Make number packets
 seen (read.Replay script) = Replay script.now
 seen (read.Audit script) = Audit script.now
 seen (read.Steps script seed) = Steps script.now seed
+seen (read.Demo number) = Demo number
 
 -- its numbers are in range: it has a server; it has packets, and no more than a capture may have
 abbrev pub IsInRange : Command → Type 0
@@ -77,3 +84,4 @@ IsInRange (Make number packets) = (1 ≤ packets) × (packets ≤ most_packets)
 IsInRange (Replay script) = Unit {0}
 IsInRange (Audit script) = Unit {0}
 IsInRange (Steps script seed) = Unit {0}
+IsInRange (Demo number) = Unit {0}

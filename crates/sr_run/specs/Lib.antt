@@ -1,6 +1,8 @@
 pub mod Audit
 pub mod Capture
 pub mod Command
+pub mod Complete
+pub mod Demo
 pub mod LawfulLog
 pub mod Make
 pub mod Numbering
@@ -10,8 +12,6 @@ pub mod Outside
 pub mod Parting
 pub mod Played
 pub mod Printing
-pub mod RareLog
 pub mod ScriptText
 pub mod Servers
-pub mod SettledLog
 pub mod Status

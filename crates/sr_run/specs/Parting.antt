@@ -13,6 +13,7 @@ forms =
     ∷ (codes "replay", codes "SCRIPT" ∷ [])
     ∷ (codes "audit", codes "SCRIPT" ∷ [])
     ∷ (codes "steps", codes "SCRIPT" ∷ codes "SEED" ∷ [])
+    ∷ (codes "demo", codes "N" ∷ [])
     ∷ []
 
 -- the texts behind references

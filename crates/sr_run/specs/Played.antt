@@ -1,10 +1,8 @@
--- What the commands `replay` and `steps` do: a capture is played by a script, in order, or step by step as a generator picks.
-use Rattle.std.specs.Prelude.{◌≡◌, ◌⊎◌, ℕ, List, [], length, map, Option, Some, None, Ok, Err}
+-- What the commands `replay` and `steps` do: a capture is played by a script, in threads, or step by step as a generator picks.
+use Rattle.std.specs.Prelude.{◌≡◌, ◌⊎◌, ℕ, List, [], Option, Some, None, Ok, Err}
 use Rattle.std.specs.Option.{ForSome}
 use Rattle.sr_base.specs.Key.{KeyView}
-use Rattle.sr_base.specs.declared.packet.Packet.{Packet}
 use Rattle.sr_capture.specs.Capture.{capture_of}
-use Rattle.sr_capture.specs.Packets.{kept_in, skips_in}
 use Rattle.sr_capture.specs.Records.{Records}
 use Rattle.sr_capture.specs.declared.captured.Captured.{Captured}
 use Rattle.sr_capture.specs.declared.capture_refusal.CaptureRefusal.{CaptureRefusal}
@@ -13,10 +11,10 @@ use Rattle.sr_io.specs.Faults.{Rose}
 use Rattle.sr_io.specs.Sink.{SinkKnown, Adds, AddsFront, Writes}
 use Rattle.sr_io.specs.Source.{SourceKnown}
 use Rattle.sr_io.specs.declared.sink.Put.TheVariants as put
-use Rattle.sr_law.specs.Pools.{pools_from}
-use Rattle.sr_law.specs.Setup.{SetupView}
 use Rattle.sr_law.specs.declared.line.Line.{Line}
 use Rattle.sr_pcap.specs.declared.begin_refusal.BeginRefusal.{BeginRefusal}
+use Rattle.sr_played.specs.Captured.{played_packets, played_skips}
+use Rattle.sr_played.specs.Lines.{AreRunLines}
 use Rattle.sr_rounds.specs.declared.timed.Timed.{Timed}
 use Rattle.sr_script.specs.Fault.{fault_of}
 use Rattle.sr_script.specs.Spelled.{Spelled}
@@ -24,32 +22,18 @@ use Rattle.sr_script.specs.declared.refusal.ScriptRefusal.{ScriptRefusal}
 use Rattle.sr_scripted.specs.Played.{Plays, Replays}
 use Rattle.sr_text.specs.LineText.{log_text}
 use Rattle.sr_run.specs.Capture.{header_refusal}
-use Rattle.sr_run.specs.LawfulLog.{IsLawfulLog}
 use Rattle.sr_run.specs.Outside.{Outside}
-use Rattle.sr_run.specs.RareLog.{IsRareLog}
-use Rattle.sr_run.specs.SettledLog.{IsSettledLog}
 use Rattle.sr_run.specs.ScriptText.{IsScript, IsNoScript}
 use Rattle.sr_run.specs.declared.status.Status.{Status}
 use Rattle.sr_run.specs.declared.way.Way.{Way}
 use Rattle.sr_run.specs.declared.way.Way.TheVariants as ways
 use Rattle.sr_run.specs.declared.status.Status.TheVariants.{Done, Script, Capture, ReadFault, WriteFault, Memory, Waiting}
 
--- a packet is kept with its time
-abbrev pub timed : Packet → ℕ → Timed
-timed packet ms = record { packet = packet; ms = ms }
-
--- the packets to a script's virtual addresses, and the skipped records, of a capture
-abbrev pub played_packets : Spelled → Records → List Timed
-played_packets s records = kept_in timed s.vips records.frames
-
-abbrev pub played_skips : Spelled → Records → List (ℕ × Skip)
-played_skips s records = skips_in s.vips records.frames
-
 -- What makes the lines of a log from a script and packets: the picks of a seed lead to the state of which they are the lines, or some events do, of
 -- whose order nothing is said.
 abbrev pub MadeBy : Way → Spelled → List Timed → List Line → Option KeyView → Type 0
 MadeBy (ways.Picked seed) s packets lines awaited = Plays s seed packets lines awaited
-MadeBy ways.InOrder s packets lines awaited = Replays s packets lines awaited
+MadeBy ways.OnThreads s packets lines awaited = Replays s packets lines awaited
 
 -- A log of the skipped records, and of the lines, by their ticks, of a state of the script's machine to which the packets lead in this way; with this
 -- key waited for in the end, if with any.
@@ -86,27 +70,17 @@ PlaysCaptured status s way captured before after = ⊥
 
 -- ---- a script and the bytes of a capture
 
--- what the lines of a run are judged by: the script's shape, servers and pools, and the packets of the capture
-abbrev pub played_setup : Spelled → Records → SetupView
-played_setup s records = record {
-  shape = s.shape;
-  servers = length s.servers;
-  pools = pools_from 0 s.first s.changes;
-  packets = map (λ t. t.packet) (played_packets s records);
-}
-
--- The bytes are a capture with whole records that ended so, and this is the log of their run, with this key waited for in the end. Whatever
--- the order, the lines are lawful: so the packets of an open connection go to the server of its opening, a connection that is opened after a switch uses that
--- pool or a later one, and each packet has its one final line. And they are settled: what was due by the end of the run was done, but for what waits for a
--- key without a place.
+-- The bytes are a capture with whole records that ended so, and this is the log of their run: the skipped records, and the lines, by their ticks, of a state of the script's machine to which
+-- the packets lead in this way, with this key waited for in the end, if with any. Whatever the order, these lines are lawful and settled, and have rare verdicts for their
+-- reasons alone (`AreRunLines`).
 pub record IsRunOf (s : Spelled) (way : Way) (bytes : List ℕ) (ending : Option CaptureRefusal) (awaited : Option KeyView) (log : List ℕ) : Type 0 where
   pub records : Records
   pub taken : capture_of bytes ≡ Ok records
   pub ended : records.ending ≡ ending
-  pub is_log : IsLogOf s way (played_skips s records) (played_packets s records) awaited log
-  pub lawful : IsLawfulLog (played_setup s records) (played_skips s records) log
-  pub settled : IsSettledLog s (played_skips s records) (played_packets s records) awaited log
-  pub rare : IsRareLog s (played_skips s records) (played_packets s records) awaited log
+  pub lines : List Line
+  pub plays : MadeBy way s (played_packets s records) lines awaited
+  pub told : AreRunLines s (played_packets s records) awaited lines
+  pub printed : log ≡ log_text (played_skips s records) lines
 
 -- the whole capture was read, and the log of its run was printed
 abbrev pub PlaysAll : Option KeyView → Spelled → Way → List ℕ → SourceKnown → SinkKnown → SinkKnown → Type 0

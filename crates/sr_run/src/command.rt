@@ -1,6 +1,6 @@
 ghost use Rattle.std.specs.Prelude.{◌≡◌, IfOk, IfSome, map, option_map, string_bytes};
 ghost use Rattle.std.specs.List.{list_any};
-ghost use Rattle.sr_run.specs.Command.{IsInRange, begins_with_dash, command_of, command_of_plain, command_of_three, command_of_two, make_of, one_of, seen, steps_of};
+ghost use Rattle.sr_run.specs.Command.{IsInRange, begins_with_dash, command_of, command_of_plain, command_of_three, command_of_two, demo_of, make_of, one_of, seen, steps_of};
 ghost use Rattle.sr_run.specs.Parting.{texts};
 
 use crate::numbers::{count_of_packets, number_of};
@@ -30,6 +30,11 @@ pub(crate) enum Command<'a> {
     Replay {
         /// The name of the script.
         script: &'a str,
+    },
+    /// A demonstration: `demo N`.
+    Demo {
+        /// The number that its capture is made from.
+        number: u64,
     },
     /// A log and a script: `audit SCRIPT`.
     Audit {
@@ -127,6 +132,8 @@ fn command_of_two<'a>(name: &str, script: &'a str) -> Option<Command<'a>>
         Some(Command::Replay { script })
     } else if name == "audit" {
         Some(Command::Audit { script })
+    } else if name == "demo" {
+        read_demo(script)
     } else {
         None
     }
@@ -175,6 +182,15 @@ fn read_make<'a>(number: &str, packets: &str) -> Option<Command<'a>>
     let number = number_of(number)?;
     let packets = count_of_packets(packets)?;
     Some(Command::Make { number, packets })
+}
+
+// The command `demo` with this word.
+fn read_demo<'a>(number: &str) -> Option<Command<'a>>
+    ensures value { option_map seen result ≡ demo_of number.now }
+    ensures some { IfSome result (λ x. IsInRange (seen x)) }
+{
+    let number = number_of(number)?;
+    Some(Command::Demo { number })
 }
 
 // The command `steps` with these words.

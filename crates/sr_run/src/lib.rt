@@ -7,6 +7,7 @@
 //! | `command`, `parting`, `servers`, `numbers` | the words: the command, its parts by the command-line library, and what stands among them |
 //! | `one`, with `print_log` | the command `one`: a whole capture is read (`sr_capture`), then printed |
 //! | `make_capture` | the command `make` |
+//! | `demo` | the command `demo`: a demonstration (`sr_demo`), then its four lines |
 //! | `audit`, with `script_text`, `numbering` | the command `audit`: the script, the log, and the records' numbers |
 //! | `played`, with `way`, `print_lines` | the commands `replay` and `steps`: the script, the whole capture, its run (`sr_scripted`), then printing |
 //! | `status` | how a run ends |
@@ -14,6 +15,7 @@
 
 mod audit;
 mod command;
+mod demo;
 mod make_capture;
 mod numbering;
 mod numbers;

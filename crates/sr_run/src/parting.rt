@@ -11,12 +11,13 @@ use std::alloc::{AllocError, Global};
 type Form = (&'static str, &'static [&'static str]);
 
 // The commands.
-const FORMS: [Form; 5] = [
+const FORMS: [Form; 6] = [
     ("one", &["VIP", "SERVERS"]),
     ("make", &["N", "PACKETS"]),
     ("replay", &["SCRIPT"]),
     ("audit", &["SCRIPT"]),
     ("steps", &["SCRIPT", "SEED"]),
+    ("demo", &["N"]),
 ];
 
 /// Parts the words of a command: its name, and then the text of each of its arguments. Any error is want of memory.

@@ -6,6 +6,6 @@ pub(crate) enum Way {
         /// What the picks begin with.
         seed: u64,
     },
-    /// In order: in each round one pipe after another handles its share, and then the controller makes its turns.
-    InOrder,
+    /// In threads: in each round all pipes handle their packets while the controller makes its turns.
+    OnThreads,
 }

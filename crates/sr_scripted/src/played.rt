@@ -1,11 +1,13 @@
-ghost use Rattle.std.specs.Prelude.{◌≡◌, IfOk};
+ghost use Rattle.std.specs.Prelude.{◌≡◌, ◌++◌, IfOk, reverse};
 ghost use Rattle.sr_inv_runs.specs.Runs.{ArePackets};
+ghost use Rattle.sr_machine.specs.Core.{newest_first, pipe_lines};
 ghost use Rattle.sr_script.specs.Fitting.{IsFitting};
 ghost use Rattle.sr_script.specs.Script.{spelled};
 ghost use Rattle.sr_scripted.specs.Played.{ActsLeadTo, LeadsTo, Plays, Replays, settled_for};
 
 use crate::{config_of, in_order};
 use sr_base::{Key, key_ranges};
+use sr_core::Core;
 use sr_law::Line;
 use sr_machine::Settled;
 use sr_rounds::Timed;
@@ -49,9 +51,8 @@ fn run_script(
 {
     let config = config_of(alloc, script)?;
     let run = run_by_picks(alloc, config, packets, seed)?;
-    let awaited = awaited(run.settled)?;
-    let lines = in_order(run.core.all_lines(alloc)?)?;
-    Ok(Played { lines, awaited })
+    let played = left_of(alloc, &run.core, run.settled)?;
+    Ok(played)
 }
 
 /// The run of a script over these packets: in each round one pipe after another handles its share, each packet whole, and then the
@@ -72,8 +73,17 @@ fn run_in_rounds(alloc: Global, script: Script, packets: &[Timed]) -> Result<Pla
 {
     let config = config_of(alloc, script)?;
     let run = run_in_order(alloc, config, packets)?;
-    let awaited = awaited(run.settled)?;
-    let lines = in_order(run.core.all_lines(alloc)?)?;
+    let played = left_of(alloc, &run.core, run.settled)?;
+    Ok(played)
+}
+
+// What is left of a run that came to this machine, and whose turns ended so.
+fn left_of(alloc: Global, core: &Core, settled: Settled) -> Result<Played, AllocError>
+    ensures lines { IfOk result (λ played. played.lines.items ≡ reverse (newest_first (pipe_lines core.now.pipes ++ core.now.controller.lines))) }
+    ensures awaited { IfOk result (λ played. settled ≡ settled_for played.awaited) }
+{
+    let awaited = awaited(settled)?;
+    let lines = in_order(core.all_lines(alloc)?)?;
     Ok(Played { lines, awaited })
 }
 

@@ -1,7 +1,8 @@
 use Rattle.std.proofs.Common.{Ok, Err, sym, subst}
 use Rattle.sr_capture.specs.Capture.{Reads}
 use Rattle.sr_script.specs.Script.{spelled}
-use Rattle.sr_run.specs.Played.{PlaysCapture, timed}
+use Rattle.sr_played.specs.Captured.{timed}
+use Rattle.sr_run.specs.Played.{PlaysCapture}
 use Rattle.sr_run.proofs.Stepping.{plays_read, plays_unread}
 use Rattle.sr_run.proofs.played.play_capture.Goals as goal
 

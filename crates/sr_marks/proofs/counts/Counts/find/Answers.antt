@@ -1,5 +1,5 @@
 use Rattle.std.proofs.Common.{◌≡◌, ◌+◌, ◌-◌, refl, subst, arith, rules}
-use Rattle.sr_marks.proofs.Walks.{Finding, level-read, levels-under, finding_none, finding-within, finding_left, finding_right, finding_all}
+use Rattle.sr_marks.proofs.Walks.{Finding, level-read, levels-under, finding_none, finding-within, finding-fits, finding_down, finding_all}
 use Rattle.sr_marks.proofs.counts.Counts.find.Goals as goal
 
 pub loop-i-init : goal.loop-i-init
@@ -12,13 +12,8 @@ overflow_mul-at c =
     let e = finding-within c.args.self.now c.args.n c.loop-i.i c.loop-i.at c.loop-i.rest c.loop-i.invariant in
     omega arith
 
-pub overflow_add-at : goal.overflow_add-at
-overflow_add-at c =
-    let e = finding-within c.args.self.now c.args.n c.loop-i.i c.loop-i.at c.loop-i.rest c.loop-i.invariant in
-    omega arith
-
-pub loop-i-preserved-then-left-rest : goal.loop-i-preserved-then-left-rest
-loop-i-preserved-then-left-rest c =
+pub find_from-found-requires : goal.find_from-found-requires
+find_from-found-requires c =
     let xs = c.args.self.now in
     let i = c.loop-i.i - 1 in
     let at = c.loop-i.at in
@@ -26,8 +21,7 @@ loop-i-preserved-then-left-rest c =
     let here = level-read levels levels xs c.index.result.now i c.self.invariant c.self.view_is refl (omega arith) c.index.ensures in
     let up : c.loop-i.i ≡ i + 1 = omega arith in
     let found = subst (λ j. Finding xs c.args.n j at c.loop-i.rest) up c.loop-i.invariant in
-    let left = c.get-left.ensures in
-    rw left (finding_right xs c.index.result.now c.args.n i at c.loop-i.rest found here (omega arith))
+    record { within = finding-fits xs c.index.result.now c.args.n i at c.loop-i.rest found here }
 
 pub loop-i-preserved : goal.loop-i-preserved
 loop-i-preserved c =
@@ -38,7 +32,7 @@ loop-i-preserved c =
     let here = level-read levels levels xs c.index.result.now i c.self.invariant c.self.view_is refl (omega arith) c.index.ensures in
     let up : c.loop-i.i ≡ i + 1 = omega arith in
     let found = subst (λ j. Finding xs c.args.n j at c.loop-i.rest) up c.loop-i.invariant in
-    finding_left xs c.index.result.now c.args.n i at c.loop-i.rest found here (omega (arith, c.get-left.ensures))
+    finding_down xs c.index.result.now c.args.n i at c.loop-i.rest _ _ found here c.find_from-found.ensures.so_far c.find_from-found.ensures.inside
 
 pub returns : goal.returns
 returns c =

@@ -1,6 +1,6 @@
 use Rattle.std.proofs.Common.{length, ap, arith}
 use Rattle.sr_marks.specs.Counts.{total}
-use Rattle.sr_marks.proofs.Pairing.{length-pairs}
+use Rattle.sr_marks.proofs.Grouping.{length-groups}
 use Rattle.sr_marks.proofs.Levels.{total-level}
 use Rattle.sr_marks.proofs.Walks.{growing_none, growing_more, growing_all, growing_is}
 use Rattle.sr_marks.proofs.counts.Counts.over.Goals as goal
@@ -8,15 +8,15 @@ use Rattle.sr_marks.proofs.counts.Counts.over.Goals as goal
 pub loop-alloc-init : goal.loop-alloc-init
 loop-alloc-init c = rw c.new-levels.ensures.items (growing_none c.args.lowest)
 
-pub halved-requires : goal.halved-requires
-halved-requires c =
+pub grouped-requires : goal.grouped-requires
+grouped-requires c =
     let same = ap total c.loop-alloc.invariant.next in
     omega (arith, total-level (length c.loop-alloc.levels.items) c.args.lowest)
 
 pub loop-alloc-smaller : goal.loop-alloc-smaller
 loop-alloc-smaller c =
-    let halved = ap length c.in_ok-above.ensures in
-    omega (arith, length-pairs c.loop-alloc.level, c.len.ensures)
+    let grouped = ap length c.in_ok-above.ensures in
+    omega (arith, length-groups c.loop-alloc.level, c.len.ensures)
 
 pub loop-alloc-preserved : goal.loop-alloc-preserved
 loop-alloc-preserved c =

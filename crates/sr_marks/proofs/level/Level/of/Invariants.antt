@@ -1,6 +1,5 @@
-use Rattle.std.proofs.Common.{◌≡◌, take}
-use Rattle.sr_marks.specs.Counts.{weights}
+use Rattle.sr_marks.proofs.Keeping.{Counting}
 use Rattle.sr_marks.proofs.level.Level.of.Given as goal
 
-abbrev pub invariant-loop-mark : goal.invariant-loop-mark
-invariant-loop-mark l = l.counts.items ≡ weights (take l.mark-index l.marks) 0
+abbrev pub invariant-loop-word : goal.invariant-loop-word
+invariant-loop-word l = Counting l.counts.items l.flags l.word

@@ -1,31 +1,15 @@
-use Rattle.std.proofs.Common.{◌-◌, length, ap, sym, ◌∙◌, arith}
-use Rattle.sr_marks.specs.Counts.{weights}
-use Rattle.sr_marks.specs.Marks.{MarksView, count_set}
-use Rattle.sr_marks.proofs.Weighing.{length-weights}
-use Rattle.sr_marks.proofs.Counting.{counted_made}
+use Rattle.std.proofs.Common.{◌*◌, ◌-◌, ◌<◌, ◌^◌, Bool, List, length, replicate, false, ap, sym, ◌∙◌, subst, arith}
+use Rattle.std.proofs.lemmas.List.{length-append, length-replicate}
+use Rattle.sr_marks.specs.Words.{AreWordCounts}
+use Rattle.sr_marks.proofs.Keeping.{kept_grown}
 use Rattle.sr_marks.proofs.marks.Marks.reserve.Goals as goal
 
-pub invariant_of-self-2 : goal.invariant_of-self-2
-invariant_of-self-2 c =
+pub invariant_of-self : goal.invariant_of-self
+invariant_of-self c =
     let inside = c.self.inside in
-    let room = c.max-capacity.result in
-    let same = c.reserve.ensures.items in
-    let size = ap length same in
-    counted_made c.reserve.new.self.items _ room c.in_ok-self-inside.field-0 inside.set (omega arith) (omega (arith, c.in_ok-reserve.ensures.ok)) (omega arith) (c.self.invariant.set_is ∙ ap count_set (sym same)) (c.in_ok-self-inside.ensures ∙ ap (λ zs. weights zs (room - length zs)) c.as_slice.ensures.value)
-
-pub returns-clause-room : goal.returns-clause-room
-returns-clause-room c =
-    let room = c.max-capacity.result in
-    let long = ap length c.in_ok-self-inside.ensures ∙ length-weights c.as_slice.result.now (room - length c.as_slice.result.now) in
-    let slice = ap length c.as_slice.ensures.value in
-    let size = ap length c.reserve.ensures.items in
-    omega arith
-
-pub returns-clause-more : goal.returns-clause-more
-returns-clause-more c =
-    let room = c.max-capacity.result in
-    let long = ap length c.in_ok-self-inside.ensures ∙ length-weights c.as_slice.result.now (room - length c.as_slice.result.now) in
-    let slice = ap length c.as_slice.ensures.value in
-    let size = ap length c.reserve.ensures.items in
-    let shown = ap (λ (m : MarksView). m.room) c.self.view_is in
-    omega arith
+    let more = 64 * c.div_ceil.result - length inside.tiers in
+    let long = ap length c.in_ok-flags.ensures ∙ length-append inside.tiers (replicate more false) in
+    let rest = length-replicate more false in
+    let same = ap length c.in_ok-self-inside.ensures in
+    let short : length c.in_ok-self-inside.field-0 < 2 ^ 32 = omega (arith, c.div_ceil.ensures, c.max-capacity.ensures, c.min.ensures, c.self.invariant.short, c.self.invariant.within, c.len.ensures, c.if-additional-self.false) in
+    kept_grown inside.tiers c.in_ok-self-inside.field-0 inside.pushed inside.counts c.in_ok-counts.counts inside.set more c.self.invariant (c.in_ok-self-inside.ensures ∙ c.in_ok-flags.ensures) (subst (λ (ms : List Bool). AreWordCounts c.in_ok-counts.counts ms) (sym c.in_ok-self-inside.ensures) c.in_ok-counts.ensures) short

@@ -1,0 +1,5 @@
+pub mod Boards
+mod Events
+mod Picks
+pub mod Pipes
+mod Turns

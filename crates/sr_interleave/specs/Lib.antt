@@ -1,0 +1,4 @@
+pub mod Acting
+pub mod Interleaving
+pub mod Standing
+pub mod Together

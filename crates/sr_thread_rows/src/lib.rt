@@ -1,0 +1,5 @@
+//! Runs on running threads, as tests.
+#![tactic(auto)]
+
+#[cfg(test)]
+mod runs;

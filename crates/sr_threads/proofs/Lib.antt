@@ -1,0 +1,9 @@
+mod Handled
+mod Laps
+mod Parts
+mod Replays
+mod Rests
+mod Rounding
+mod Together
+mod Turns
+mod Whole

@@ -1,0 +1,5 @@
+pub mod Governing
+pub mod Hiring
+pub mod Playing
+pub mod Replayed
+pub mod Working
