@@ -47,7 +47,8 @@ in_time true start out e =
     omega arith
 in_time false start out e = leb-true start out (and_parts (nat_le 1 start) (nat_le start out) e).1
 
-wider : (before : List Line) (a b : ℕ) → a ≤ b → AreOut a before → AreOut b before
+-- what was out before a tick was out before a later one
+pub wider : (before : List Line) (a b : ℕ) → a ≤ b → AreOut a before → AreOut b before
 wider [] a b h out = tt
 wider (line ∷ before) a b h out = (omega (arith, out.0, h), wider before a b h out.1)
 

@@ -1,5 +1,5 @@
 -- Steps of the indexes of the greatest numbers.
-use Rattle.std.proofs.Common.{◌≡◌, ℕ, Bool, true, false, ◌&&◌, ◌||◌, cond, List, ◌∷◌, Option, None, Some, refl, sym, ap, ◌∙◌, inl, inr, subst, arith}
+use Rattle.std.proofs.Common.{◌≡◌, ℕ, false, ◌&&◌, ◌||◌, cond, List, ◌∷◌, Option, None, Some, sym, ap, ◌∙◌, inl, inr, subst, arith}
 use Rattle.std.specs.Prelude.{nat_le, nat_eq}
 use Rattle.std.specs.BTreeMap.{is_at}
 use Rattle.std.specs.List.{list_any}
@@ -18,8 +18,8 @@ greater : (n new : ℕ) (old : Option ℕ) → reaches new old ≡ false → nat
 greater n new None e = grind (arith, nat_tests)
 greater n new (Some x) e = grind (arith, nat_tests)
 
-same_vip : (to vip : ℕ) → is_at (nat_cmp to) vip ≡ nat_eq to vip
-same_vip to vip = grind (arith, common_steps, nat_tests)
+pub same_number : (to vip : ℕ) → is_at (nat_cmp to) vip ≡ nat_eq to vip
+same_number to vip = grind (arith, common_steps, nat_tests)
 
 -- a pool that is greater than those that its virtual address was given
 pub given_greater : (old new : ℕ → Option ℕ) (before : List Line) (out to version pool : ℕ) → reaches pool (old to) ≡ false
@@ -28,7 +28,7 @@ pub given_greater : (old new : ℕ → Option ℕ) (before : List Line) (out to 
     → (vip n : ℕ) → reaches n (new vip) ≡ list_any (was_given_past vip n) (Given out to version pool ∷ before)
 given_greater old new before out to version pool e step h vip n =
     let older = list_any (was_given_past vip n) before in
-    ap (reaches n) (step vip ∙ ap (λ b. cond b (Some pool) (old vip)) (same_vip to vip))
+    ap (reaches n) (step vip ∙ ap (λ b. cond b (Some pool) (old vip)) (same_number to vip))
     ∙ elim (cases_Bool (nat_eq to vip)) [
       | inl t ↦
           let less : reaches pool (old vip) ≡ false = subst (λ v. reaches pool (old v) ≡ false) (eqb-true to vip t) e in

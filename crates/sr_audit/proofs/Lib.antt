@@ -6,4 +6,5 @@ pub mod Holding
 pub mod Known
 pub mod Tables
 pub mod Telling
+pub mod Updating
 pub mod Walked

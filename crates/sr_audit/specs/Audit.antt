@@ -8,6 +8,7 @@ use Rattle.sr_audit.specs.declared.audit.Audit.{Audit}
 use Rattle.sr_audit.specs.Connections.{TellsConnections}
 use Rattle.sr_audit.specs.Downs.{TellsDowns}
 use Rattle.sr_audit.specs.Greatest.{TellsGreatest, TellsRefused}
+use Rattle.sr_audit.specs.Holds.{TellsHolds}
 use Rattle.sr_audit.specs.LastGivings.{TellsGivings}
 use Rattle.sr_audit.specs.LastSweep.{TellsSweep}
 use Rattle.sr_audit.specs.LastUpdate.{TellsUpdate}
@@ -29,6 +30,7 @@ pub record Tells (setup : SetupView) (audit : Audit) (before : List Line) : Type
   pub switches : TellsSwitches audit.switches before
   pub connections : TellsConnections audit.connections before
   pub downs : TellsDowns audit.downs before
+  pub holds : TellsHolds audit.holds before
   pub places : TellsPlaces audit.places before
   pub given : TellsGreatest audit.given before
   pub refused : TellsRefused audit.refused before

@@ -1,5 +1,5 @@
 -- The lines that can stand in a line's way: those that were out at its start or later. In a list in order they are the newest ones.
-use Rattle.std.specs.Prelude.{Bool, false, ◌||◌, ◌≤◌, ◌<◌, ℕ, nat_le, List, [], ◌∷◌}
+use Rattle.std.specs.Prelude.{Bool, false, ◌||◌, ◌≤◌, ◌<◌, ℕ, nat_le, nat_lt, List, [], ◌∷◌, Option, Some, None}
 use Rattle.std.specs.List.{list_any, take_while}
 use Rattle.sr_law.specs.declared.line.Line.{Line}
 use Rattle.sr_law.specs.declared.line.Line.TheVariants.{Packet, Swept}
@@ -33,3 +33,8 @@ AreOut tick (line ∷ before) = (out_of line < tick) × AreOut tick before
 abbrev pub Falls : List Line → Type 0
 Falls [] = Unit {0}
 Falls (line ∷ before) = (start_of line ≤ out_of line) × AreOut (out_of line) before × Falls before
+
+-- there is a tick, and it is before this one
+abbrev pub was_before : Option ℕ → ℕ → Bool
+was_before None tick = false
+was_before (Some earlier) tick = nat_lt earlier tick

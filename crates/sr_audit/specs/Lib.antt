@@ -5,6 +5,7 @@ pub mod Counts
 pub mod Downs
 pub mod Greatest
 pub mod HeldCounts
+pub mod Holds
 pub mod Index
 pub mod LastGivings
 pub mod LastSweep

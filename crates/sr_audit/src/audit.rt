@@ -7,6 +7,7 @@ use crate::connections::Connections;
 use crate::downs::Downs;
 use crate::greatest_given::GreatestGiven;
 use crate::greatest_refused::GreatestRefused;
+use crate::holds::Holds;
 use crate::last_givings::LastGivings;
 use crate::last_sweep::LastSweep;
 use crate::last_update::LastUpdate;
@@ -26,6 +27,7 @@ pub(crate) struct Audit {
     pub(crate) switches: Switches,
     pub(crate) connections: Connections,
     pub(crate) downs: Downs,
+    pub(crate) holds: Holds,
     pub(crate) places: Places,
     pub(crate) given: GreatestGiven,
     pub(crate) refused: GreatestRefused,
@@ -45,6 +47,7 @@ impl Audit {
             switches: Switches::new(alloc),
             connections: Connections::new(alloc),
             downs: Downs::new(alloc),
+            holds: Holds::new(alloc),
             places: Places::new(alloc),
             given: GreatestGiven::new(alloc),
             refused: GreatestRefused::new(),
@@ -67,6 +70,7 @@ impl Audit {
         self.switches.absorb(line)?;
         self.connections.absorb(line)?;
         self.downs.absorb(line)?;
+        self.holds.absorb(line)?;
         self.given.absorb(line)?;
         self.rows.absorb(line)?;
         self.places.absorb(line)

@@ -1,5 +1,5 @@
 ghost use Rattle.std.specs.Prelude.{◌≡◌, ◌≤◌, List, reverse, length};
-ghost use Rattle.sr_law.specs.Cause.{meets_cause};
+ghost use Rattle.sr_law.specs.Cause.{is_opener, meets_cause};
 ghost use Rattle.sr_law.specs.Groups.{keeps_groups, names_next_pool};
 ghost use Rattle.sr_law.specs.Lawful.{broken};
 ghost use Rattle.sr_law.specs.Newer.{is_new_pool, meets_newer};
@@ -8,15 +8,15 @@ ghost use Rattle.sr_law.specs.Retire.{endings_of, meets_retire};
 ghost use Rattle.sr_law.specs.Same.{meets_same};
 ghost use Rattle.sr_law.specs.Server.{meets_server};
 ghost use Rattle.sr_law.specs.Shaped.{IsShaped};
-ghost use Rattle.sr_law.specs.TakenDown.{is_known_down};
 ghost use Rattle.sr_audit.specs.Audit.{IsLawfulSoFar, Tells};
 ghost use Rattle.sr_audit.specs.Lately.{Falls};
 
 use crate::audit::Audit;
 use crate::lately::rises;
+use sr_base::Kind;
 use sr_law::{
-    Clause, Line, Opening, Setup, Verdict, goes_on, has_pool, in_range, is_known_down,
-    is_opening_give, meets_cause, meets_number, meets_retire, opened_by,
+    Clause, HeldBy, Line, Opening, Setup, Verdict, goes_on, has_pool, in_range, is_opening_give,
+    meets_cause, meets_number, meets_retire, opened_by,
 };
 
 // A pool that is given exists, and comes after those that its virtual address was given; the one that it switches to is the last given.
@@ -145,13 +145,14 @@ fn meets_newer(audit: &Audit, setup: &Setup, before: &[Line], line: &Line) -> bo
     }
 }
 
-// A server is known to be down: only one that was taken down is.
-#[tactic(auto, using(crate::proofs::Known::known_is_down))]
-fn knows_down(audit: &Audit, setup: &Setup, before: &[Line], server: u32, tick: u64) -> bool
-    requires { Tells setup.now audit.now (reverse before.now) }
-    ensures { result ≡ is_known_down (reverse before.now) server tick }
+// It opens a connection.
+fn is_opener(kind: Kind) -> bool
+    ensures { result ≡ is_opener kind }
 {
-    audit.downs.has(server) && is_known_down(before, server, tick)
+    match kind {
+        Kind::Opener => true,
+        _ => false,
+    }
 }
 
 // A line has its cause.
@@ -159,6 +160,7 @@ fn knows_down(audit: &Audit, setup: &Setup, before: &[Line], server: u32, tick: 
 fn has_cause(audit: &Audit, setup: &Setup, before: &[Line], line: &Line) -> bool
     requires shape { IsShaped setup.now.shape }
     requires vips { length setup.now.pools ≤ 16 }
+    requires falls { Falls (reverse before.now) }
     requires tells { Tells setup.now audit.now (reverse before.now) }
     ensures { result ≡ meets_cause setup.now (reverse before.now) line.now }
 {
@@ -167,7 +169,14 @@ fn has_cause(audit: &Audit, setup: &Setup, before: &[Line], line: &Line) -> bool
             entered,
             verdict: Verdict::To { server, .. },
             ..
-        } => !knows_down(audit, setup, before, server, entered),
+        } => !audit.downs.knows(server, entered),
+        Line::Packet {
+            entered,
+            key,
+            kind,
+            verdict: Verdict::Held(HeldBy::Hold),
+            ..
+        } => is_opener(kind) && audit.holds.may_hold(key.vip, entered),
         Line::Answer {
             verdict: Verdict::To { server, .. },
             ..

@@ -1,6 +1,6 @@
 ghost use Rattle.std.specs.Prelude.{◌≡◌, List, reverse};
 ghost use Rattle.sr_law.specs.Rising.{rises};
-ghost use Rattle.sr_audit.specs.Lately.{Falls, is_in_way, crosses, is_late, crosses_lately};
+ghost use Rattle.sr_audit.specs.Lately.{Falls, is_in_way, crosses, is_late, crosses_lately, was_before};
 
 use sr_law::{Line, after_last, is_in_time, share_tick, was_controlling, was_in_pipe};
 
@@ -47,4 +47,14 @@ pub(crate) fn rises(before: &[Line], line: &Line) -> bool
     ensures { Falls (reverse before.now) → result ≡ rises (reverse before.now) line.now }
 {
     after_last(before, line) && is_in_time(line) && !crosses_lately(before, line)
+}
+
+// There is a tick, and it is before this one.
+pub(crate) fn was_before(earlier: Option<u64>, tick: u64) -> bool
+    ensures { result ≡ was_before earlier tick }
+{
+    match earlier {
+        Some(earlier) => earlier < tick,
+        None => false,
+    }
 }

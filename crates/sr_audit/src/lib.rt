@@ -10,6 +10,7 @@
 //! | What a virtual address was last switched to | `switches` |
 //! | Whether a connection is open, and how it was opened | `connections` |
 //! | Whether a server was taken down | `downs` |
+//! | What an update that holds its virtual address did since | `holds` |
 //! | Who has a place of the tables | `places` |
 //! | Whether a pool comes after those that its virtual address was given | `greatest_given` |
 //! | Whether a change comes after those that were refused | `greatest_refused` |
@@ -30,6 +31,7 @@ mod final_lines;
 mod greatest_given;
 mod greatest_refused;
 mod held_counts;
+mod holds;
 mod judge;
 mod last_givings;
 mod last_sweep;

@@ -3,7 +3,7 @@ use Rattle.std.proofs.lemmas.Result.{on_ok_weaker}
 use Rattle.sr_audit.proofs.audit.Audit.absorb.Goals as goal
 
 pub returns : goal.returns
-returns c = on_ok_weaker c.absorb-11.result (λ places setup before size t. record {
+returns c = on_ok_weaker c.absorb-12.result (λ places setup before size t. record {
   vips = c.absorb.ensures.vips ∙ t.vips;
   update = c.absorb.ensures.kept before size t.update;
   versions = c.absorb-2.ensures before t.versions;
@@ -13,7 +13,8 @@ returns c = on_ok_weaker c.absorb-11.result (λ places setup before size t. reco
   switches = c.in_ok-absorb-2.ensures before t.switches;
   connections = c.in_ok-absorb-3.ensures before t.connections;
   downs = c.in_ok-absorb-4.ensures before t.downs;
-  given = c.in_ok-absorb-5.ensures before t.given;
-  rows = c.in_ok-absorb-6.ensures before t.rows;
+  holds = c.in_ok-absorb-5.ensures before t.holds;
+  given = c.in_ok-absorb-6.ensures before t.given;
+  rows = c.in_ok-absorb-7.ensures before t.rows;
   places = places before t.places;
-}) c.absorb-11.ensures
+}) c.absorb-12.ensures
