@@ -1,6 +1,7 @@
 pub mod Alone
 pub mod Answering
 pub mod Falling
+pub mod Filtering
 pub mod Greatest
 pub mod Holding
 pub mod Known

@@ -7,6 +7,7 @@ use Rattle.sr_law.specs.Setup.{SetupView}
 use Rattle.sr_audit.specs.declared.audit.Audit.{Audit}
 use Rattle.sr_audit.specs.Connections.{TellsConnections}
 use Rattle.sr_audit.specs.Downs.{TellsDowns}
+use Rattle.sr_audit.specs.Filters.{TellsFilters}
 use Rattle.sr_audit.specs.Greatest.{TellsGreatest, TellsRefused}
 use Rattle.sr_audit.specs.Holds.{TellsHolds}
 use Rattle.sr_audit.specs.LastGivings.{TellsGivings}
@@ -30,6 +31,7 @@ pub record Tells (setup : SetupView) (audit : Audit) (before : List Line) : Type
   pub switches : TellsSwitches audit.switches before
   pub connections : TellsConnections audit.connections before
   pub downs : TellsDowns audit.downs before
+  pub filters : TellsFilters setup.shape.filter_bits audit.filters before
   pub holds : TellsHolds audit.holds before
   pub places : TellsPlaces audit.places before
   pub given : TellsGreatest audit.given before

@@ -3,6 +3,7 @@ pub mod Audit
 pub mod Connections
 pub mod Counts
 pub mod Downs
+pub mod Filters
 pub mod Greatest
 pub mod HeldCounts
 pub mod Holds

@@ -1,10 +1,11 @@
 ghost use Rattle.std.specs.Prelude.{◌≡◌, ◌∷◌, List, [], IfOk, OnOk, length};
-ghost use Rattle.sr_law.specs.Setup.{SetupView};
+ghost use Rattle.sr_law.specs.Shaped.{IsShaped};
 ghost use Rattle.sr_law.specs.declared.line.Line.{Line as ALine};
 ghost use Rattle.sr_audit.specs.Audit.{Tells};
 
 use crate::connections::Connections;
 use crate::downs::Downs;
+use crate::filters::Filters;
 use crate::greatest_given::GreatestGiven;
 use crate::greatest_refused::GreatestRefused;
 use crate::holds::Holds;
@@ -28,6 +29,7 @@ pub(crate) struct Audit {
     pub(crate) connections: Connections,
     pub(crate) downs: Downs,
     pub(crate) holds: Holds,
+    pub(crate) filters: Filters,
     pub(crate) places: Places,
     pub(crate) given: GreatestGiven,
     pub(crate) refused: GreatestRefused,
@@ -48,6 +50,7 @@ impl Audit {
             connections: Connections::new(alloc),
             downs: Downs::new(alloc),
             holds: Holds::new(alloc),
+            filters: Filters::new(alloc),
             places: Places::new(alloc),
             given: GreatestGiven::new(alloc),
             refused: GreatestRefused::new(),
@@ -57,15 +60,22 @@ impl Audit {
     }
 
     // One line more, the one of this number, from 0.
-    pub(crate) fn absorb(&mut self, number: usize, line: &Line) -> Result<(), AllocError>
-        ensures { OnOk result ((setup : SetupView) (before : List ALine) → length before ≡ number
-            → Tells setup self.old before
-            → Tells setup self.new (line.now ∷ before)) }
+    pub(crate) fn absorb(
+        &mut self,
+        setup: &Setup,
+        number: usize,
+        line: &Line,
+    ) -> Result<(), AllocError>
+        requires { IsShaped setup.now.shape }
+        ensures { OnOk result ((before : List ALine) → length before ≡ number
+            → Tells setup.now self.old before
+            → Tells setup.now self.new (line.now ∷ before)) }
     {
         self.update.absorb(number, line);
         self.versions.absorb(line);
         self.refused.absorb(line);
         self.sweep.absorb(line);
+        self.filters.absorb(&setup.shape, &self.givings, line)?;
         self.givings.absorb(line)?;
         self.switches.absorb(line)?;
         self.connections.absorb(line)?;

@@ -1,6 +1,7 @@
 ghost use Rattle.std.specs.Prelude.{◌≡◌, ◌≤◌, List, reverse, length};
 ghost use Rattle.sr_law.specs.Cause.{is_opener, meets_cause};
 ghost use Rattle.sr_law.specs.Groups.{keeps_groups, names_next_pool};
+ghost use Rattle.sr_law.specs.Held.{may_transit};
 ghost use Rattle.sr_law.specs.Lawful.{broken};
 ghost use Rattle.sr_law.specs.Newer.{is_new_pool, meets_newer};
 ghost use Rattle.sr_law.specs.Order.{meets_order, refuses_next};
@@ -13,7 +14,7 @@ ghost use Rattle.sr_audit.specs.Lately.{Falls};
 
 use crate::audit::Audit;
 use crate::lately::rises;
-use sr_base::Kind;
+use sr_base::{Key, Kind};
 use sr_law::{
     Clause, HeldBy, Line, Opening, Setup, Verdict, goes_on, has_pool, in_range, is_opening_give,
     meets_cause, meets_number, meets_retire, opened_by,
@@ -155,6 +156,17 @@ fn is_opener(kind: Kind) -> bool
     }
 }
 
+// An update wasn't finished before the start of the opener, and the filter may hold it.
+#[tactic(auto, unfolding(sr_law::specs::Held::may_transit))]
+fn may_transit(audit: &Audit, setup: &Setup, before: &[Line], key: Key, start: u64) -> bool
+    requires shape { IsShaped setup.now.shape }
+    requires falls { Falls (reverse before.now) }
+    requires tells { Tells setup.now audit.now (reverse before.now) }
+    ensures { result ≡ may_transit setup.now.shape (reverse before.now) key start }
+{
+    audit.holds.is_unfinished(key.vip, start) && audit.filters.may_hold(&setup.shape, key)
+}
+
 // A line has its cause.
 #[tactic(auto, unfolding(sr_law::specs::Cause::meets_cause))]
 fn has_cause(audit: &Audit, setup: &Setup, before: &[Line], line: &Line) -> bool
@@ -177,6 +189,13 @@ fn has_cause(audit: &Audit, setup: &Setup, before: &[Line], line: &Line) -> bool
             verdict: Verdict::Held(HeldBy::Hold),
             ..
         } => is_opener(kind) && audit.holds.may_hold(key.vip, entered),
+        Line::Packet {
+            entered,
+            key,
+            kind,
+            verdict: Verdict::Held(HeldBy::Transit),
+            ..
+        } => is_opener(kind) && may_transit(audit, setup, before, key, entered),
         Line::Answer {
             verdict: Verdict::To { server, .. },
             ..

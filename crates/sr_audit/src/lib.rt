@@ -11,6 +11,7 @@
 //! | Whether a connection is open, and how it was opened | `connections` |
 //! | Whether a server was taken down | `downs` |
 //! | What an update that holds its virtual address did since | `holds` |
+//! | Which places of a filter may be set since an update records | `filters` |
 //! | Who has a place of the tables | `places` |
 //! | Whether a pool comes after those that its virtual address was given | `greatest_given` |
 //! | Whether a change comes after those that were refused | `greatest_refused` |
@@ -18,8 +19,8 @@
 //! | Which sweep was the last | `last_sweep` |
 //! | After the walk: whether each packet has its final line | `final_lines`; `pairing`: `answers`, `held_counts` |
 //!
-//! `judge` asks them, and asks the plain bodies of `sr_law` what has no index yet: why openers were held or found their
-//! ring full, whether a version is free, and whether a connection was quiet. `walk` goes over the lines. `counts` counts openings and switches.
+//! `judge` asks them, and asks the plain bodies of `sr_law` what has no index yet: why openers were held by a clash or found
+//! their ring full, whether a version is free, and whether a connection was quiet. `walk` goes over the lines. `counts` counts openings and switches.
 #![tactic(auto)]
 
 mod answers;
@@ -27,6 +28,7 @@ mod audit;
 mod connections;
 mod counts;
 mod downs;
+mod filters;
 mod final_lines;
 mod greatest_given;
 mod greatest_refused;

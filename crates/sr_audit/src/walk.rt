@@ -30,7 +30,7 @@ fn first_broken(
                 clause,
             }));
         }
-        audit.absorb(i, line)?;
+        audit.absorb(setup, i, line)?;
     }
     Ok(None)
 }

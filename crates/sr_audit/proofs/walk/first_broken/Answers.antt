@@ -33,5 +33,5 @@ loop-i-preserved c =
     newest_more lines i line c.loop-i-test.true ∙ ap (λ x. x ∷ reverse (take i lines)) (sym c.index-lines-i.is) in
     record {
       so_far = none_more setup (endings_of (reverse lines)) lines i line c.loop-i-test.true c.loop-i.invariant.so_far (sym c.index-lines-i.is) (sym c.broken.ensures ∙ c.in_default.is);
-      tells = subst (λ l. Tells setup c.absorb.new.self l) (sym list) (c.in_ok-absorb.ensures setup (reverse (take i lines)) size c.loop-i.invariant.tells);
+      tells = subst (λ l. Tells setup c.absorb.new.self l) (sym list) (c.in_ok-absorb.ensures (reverse (take i lines)) size c.loop-i.invariant.tells);
     }

@@ -1,0 +1,20 @@
+use Rattle.std.proofs.Common.{length, ap, ◌∙◌}
+use Rattle.sr_audit.proofs.audit.Audit.new.Goals as goal
+
+pub returns : goal.returns
+returns c = record {
+  vips = c.new.ensures.vips ∙ c.vips.ensures ∙ ap (λ s. length s.pools) c.setup.view_is;
+  update = c.new.ensures.tells;
+  givings = c.new-2.ensures;
+  versions = c.in_ok-new.ensures;
+  switches = c.new-4.ensures;
+  connections = c.new-5.ensures;
+  downs = c.new-6.ensures;
+  holds = c.new-7.ensures;
+  filters = c.new-8.ensures c.args.setup.now.shape.filter_bits;
+  places = c.new-9.ensures;
+  given = c.new-10.ensures;
+  refused = c.new-11.ensures;
+  rows = c.new-12.ensures;
+  sweep = c.new-13.ensures;
+}
