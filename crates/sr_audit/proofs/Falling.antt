@@ -10,7 +10,7 @@ use Rattle.sr_law.specs.declared.line.Line.TheVariants.{Packet, Swept}
 use Rattle.sr_law.specs.Groups.{keeps_groups}
 use Rattle.sr_law.specs.Lawful.{broken, breach_at, first_broken}
 use Rattle.sr_law.specs.Order.{meets_order, refuses_next}
-use Rattle.sr_law.specs.Ranges.{in_range}
+use Rattle.sr_law.specs.Ranges.{in_range, if_below, vip_of, pipe_of, server_named, names_own_place}
 use Rattle.sr_law.specs.Retire.{EndingPacket}
 use Rattle.sr_law.specs.Rising.{after_last, has_two_ticks, is_in_time, share_tick, has_new_ticks, one_by_one, rises}
 use Rattle.sr_law.specs.Setup.{SetupView}
@@ -18,6 +18,7 @@ use Rattle.sr_law.specs.Taken.{keeps_places}
 use Rattle.sr_law.specs.Ticks.{out_of, start_of}
 use Rattle.sr_law.proofs.Breaches.{first_parts, at_none}
 use Rattle.sr_law.proofs.Clauses.{meets}
+use Rattle.sr_audit.specs.Clashes.{KeepsPlaces}
 use Rattle.sr_audit.specs.Lately.{AreOut, Falls, is_in_way, crosses, is_late, crosses_lately}
 
 -- a line that breaks no clause rises
@@ -68,6 +69,34 @@ falls setup endings (line ∷ before) e =
     let rising = rise_parts before line (rises_of setup endings before line none) in
     let older = falls setup endings before parts.0 in
     (in_time (has_two_ticks line) (start_of line) (out_of line) rising.1, out_more before line older rising.0, older)
+
+-- a line that breaks no clause keeps places, and names one of its key
+places_of : (setup : SetupView) (endings : List EndingPacket) (before : List Line) (line : Line) → broken setup endings before line ≡ None
+    → (keeps_places before line ≡ true) × (names_own_place setup.shape line ≡ true)
+unfolding meets_order in_range
+places_of setup endings before line e =
+    let m = meets setup endings before line e in
+    let groups = keeps_groups setup before line in
+    let rising = rises before line in
+    let ranged = in_range setup line in
+    let placed = keeps_places before line in
+    let a = and_parts (groups && rising && ranged && placed) (refuses_next before line) m.order in
+    let b = and_parts (groups && rising && ranged) placed a.0 in
+    let c = and_parts (groups && rising) ranged b.0 in
+    let vips = if_below (length setup.pools) (vip_of line) in
+    let pipes = if_below setup.shape.pipes (pipe_of line) in
+    let servers = if_below setup.servers (server_named line) in
+    (b.1, (and_parts (vips && pipes && servers) (names_own_place setup.shape line) c.1).1)
+
+-- and so do those of a list of which no line breaks a clause
+pub places_kept : (setup : SetupView) (endings : List EndingPacket) (before : List Line) → first_broken setup endings before ≡ None → KeepsPlaces setup.shape before
+unfolding first_broken
+places_kept setup endings [] e = tt
+places_kept setup endings (line ∷ before) e =
+    let parts = first_parts (first_broken setup endings before) (breach_at (length before + 1) (broken setup endings before line)) e in
+    let none = at_none (length before + 1) (broken setup endings before line) parts.1 in
+    let placed = places_of setup endings before line none in
+    (placed.0, placed.1, places_kept setup endings before parts.0)
 
 -- ---- what was out before a line's start doesn't cross it
 

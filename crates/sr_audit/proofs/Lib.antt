@@ -1,5 +1,6 @@
 pub mod Alone
 pub mod Answering
+pub mod Clashing
 pub mod Falling
 pub mod Filtering
 pub mod Greatest

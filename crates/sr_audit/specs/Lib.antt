@@ -1,5 +1,6 @@
 pub mod Answers
 pub mod Audit
+pub mod Clashes
 pub mod Connections
 pub mod Counts
 pub mod Downs

@@ -10,9 +10,11 @@ ghost use Rattle.sr_law.specs.Same.{meets_same};
 ghost use Rattle.sr_law.specs.Server.{meets_server};
 ghost use Rattle.sr_law.specs.Shaped.{IsShaped};
 ghost use Rattle.sr_audit.specs.Audit.{IsLawfulSoFar, Tells};
+ghost use Rattle.sr_audit.specs.Clashes.{KeepsPlaces};
 ghost use Rattle.sr_audit.specs.Lately.{Falls};
 
 use crate::audit::Audit;
+use crate::clashes::may_clash;
 use crate::lately::rises;
 use sr_base::{Key, Kind};
 use sr_law::{
@@ -173,6 +175,7 @@ fn has_cause(audit: &Audit, setup: &Setup, before: &[Line], line: &Line) -> bool
     requires shape { IsShaped setup.now.shape }
     requires vips { length setup.now.pools ≤ 16 }
     requires falls { Falls (reverse before.now) }
+    requires kept { KeepsPlaces setup.now.shape (reverse before.now) }
     requires tells { Tells setup.now audit.now (reverse before.now) }
     ensures { result ≡ meets_cause setup.now (reverse before.now) line.now }
 {
@@ -182,6 +185,13 @@ fn has_cause(audit: &Audit, setup: &Setup, before: &[Line], line: &Line) -> bool
             verdict: Verdict::To { server, .. },
             ..
         } => !audit.downs.knows(server, entered),
+        Line::Packet {
+            entered,
+            key,
+            kind,
+            verdict: Verdict::Held(HeldBy::Clash),
+            ..
+        } => { is_opener(kind) && may_clash(&audit.places, &setup.shape, before, key, entered) }
         Line::Packet {
             entered,
             key,
@@ -244,6 +254,7 @@ pub(crate) fn broken(
     requires shape { IsShaped setup.now.shape }
     requires vips { length setup.now.pools ≤ 16 }
     requires falls { Falls (reverse before.now) }
+    requires kept { KeepsPlaces setup.now.shape (reverse before.now) }
     requires tells { Tells setup.now audit.now (reverse before.now) }
     ensures { result ≡ broken setup.now (endings_of (reverse all.now)) (reverse before.now) line.now }
 {

@@ -12,6 +12,7 @@
 //! | Whether a server was taken down | `downs` |
 //! | What an update that holds its virtual address did since | `holds` |
 //! | Which places of a filter may be set since an update records | `filters` |
+//! | Whether an entry that an opener matches stands, or was cleared lately | `clashes` |
 //! | Who has a place of the tables | `places` |
 //! | Whether a pool comes after those that its virtual address was given | `greatest_given` |
 //! | Whether a change comes after those that were refused | `greatest_refused` |
@@ -19,12 +20,13 @@
 //! | Which sweep was the last | `last_sweep` |
 //! | After the walk: whether each packet has its final line | `final_lines`; `pairing`: `answers`, `held_counts` |
 //!
-//! `judge` asks them, and asks the plain bodies of `sr_law` what has no index yet: why openers were held by a clash or found
-//! their ring full, whether a version is free, and whether a connection was quiet. `walk` goes over the lines. `counts` counts openings and switches.
+//! `judge` asks them, and asks the plain bodies of `sr_law` what has no index yet: why openers found their ring full,
+//! whether a version is free, and whether a connection was quiet. `walk` goes over the lines. `counts` counts openings and switches.
 #![tactic(auto)]
 
 mod answers;
 mod audit;
+mod clashes;
 mod connections;
 mod counts;
 mod downs;

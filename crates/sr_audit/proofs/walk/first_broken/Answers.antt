@@ -4,7 +4,7 @@ use Rattle.sr_law.specs.Retire.{endings_of}
 use Rattle.sr_law.proofs.Breaches.{first_zero}
 use Rattle.sr_law.proofs.Newest.{newest_more}
 use Rattle.sr_audit.specs.Audit.{Tells}
-use Rattle.sr_audit.proofs.Falling.{falls}
+use Rattle.sr_audit.proofs.Falling.{falls, places_kept}
 use Rattle.sr_audit.proofs.Walked.{breach_found, none_more}
 use Rattle.sr_audit.proofs.walk.first_broken.Goals as goal
 
@@ -15,6 +15,11 @@ pub broken-requires-clause-falls : goal.broken-requires-clause-falls
 broken-requires-clause-falls c =
     let lines = c.args.lines.now in
     falls c.args.setup.now (endings_of (reverse lines)) (reverse (take c.loop-i.i lines)) c.loop-i.invariant.so_far
+
+pub broken-requires-clause-kept : goal.broken-requires-clause-kept
+broken-requires-clause-kept c =
+    let lines = c.args.lines.now in
+    places_kept c.args.setup.now (endings_of (reverse lines)) (reverse (take c.loop-i.i lines)) c.loop-i.invariant.so_far
 
 pub returns-in-Some : goal.returns-in-Some
 returns-in-Some c =
