@@ -4,6 +4,7 @@ pub mod Clashing
 pub mod Falling
 pub mod Filtering
 pub mod Greatest
+pub mod HeldOpen
 pub mod Holding
 pub mod Known
 pub mod Tables

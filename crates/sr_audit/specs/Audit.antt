@@ -9,6 +9,7 @@ use Rattle.sr_audit.specs.Connections.{TellsConnections}
 use Rattle.sr_audit.specs.Downs.{TellsDowns}
 use Rattle.sr_audit.specs.Filters.{TellsFilters}
 use Rattle.sr_audit.specs.Greatest.{TellsGreatest, TellsRefused}
+use Rattle.sr_audit.specs.Holders.{TellsHolders}
 use Rattle.sr_audit.specs.Holds.{TellsHolds}
 use Rattle.sr_audit.specs.LastGivings.{TellsGivings}
 use Rattle.sr_audit.specs.LastSweep.{TellsSweep}
@@ -30,6 +31,7 @@ pub record Tells (setup : SetupView) (audit : Audit) (before : List Line) : Type
   pub versions : TellsVersions audit.versions before
   pub switches : TellsSwitches audit.switches before
   pub connections : TellsConnections audit.connections before
+  pub holders : TellsHolders audit.holders before
   pub downs : TellsDowns audit.downs before
   pub filters : TellsFilters setup.shape.filter_bits audit.filters before
   pub holds : TellsHolds audit.holds before

@@ -7,6 +7,7 @@ pub mod Downs
 pub mod Filters
 pub mod Greatest
 pub mod HeldCounts
+pub mod Holders
 pub mod Holds
 pub mod Index
 pub mod LastGivings

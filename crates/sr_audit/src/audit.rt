@@ -8,6 +8,7 @@ use crate::downs::Downs;
 use crate::filters::Filters;
 use crate::greatest_given::GreatestGiven;
 use crate::greatest_refused::GreatestRefused;
+use crate::holders::Holders;
 use crate::holds::Holds;
 use crate::last_givings::LastGivings;
 use crate::last_sweep::LastSweep;
@@ -27,6 +28,7 @@ pub(crate) struct Audit {
     pub(crate) versions: Versions,
     pub(crate) switches: Switches,
     pub(crate) connections: Connections,
+    pub(crate) holders: Holders,
     pub(crate) downs: Downs,
     pub(crate) holds: Holds,
     pub(crate) filters: Filters,
@@ -48,6 +50,7 @@ impl Audit {
             versions: Versions::new(alloc)?,
             switches: Switches::new(alloc),
             connections: Connections::new(alloc),
+            holders: Holders::new(alloc),
             downs: Downs::new(alloc),
             holds: Holds::new(alloc),
             filters: Filters::new(alloc),
@@ -78,6 +81,7 @@ impl Audit {
         self.filters.absorb(&setup.shape, &self.givings, line)?;
         self.givings.absorb(line)?;
         self.switches.absorb(line)?;
+        self.holders.absorb(&self.connections, line)?;
         self.connections.absorb(line)?;
         self.downs.absorb(line)?;
         self.holds.absorb(line)?;

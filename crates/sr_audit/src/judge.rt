@@ -4,6 +4,7 @@ ghost use Rattle.sr_law.specs.Groups.{keeps_groups, names_next_pool};
 ghost use Rattle.sr_law.specs.Held.{may_transit};
 ghost use Rattle.sr_law.specs.Lawful.{broken};
 ghost use Rattle.sr_law.specs.Newer.{is_new_pool, meets_newer};
+ghost use Rattle.sr_law.specs.Number.{is_in_use, meets_number};
 ghost use Rattle.sr_law.specs.Order.{meets_order, refuses_next};
 ghost use Rattle.sr_law.specs.Retire.{endings_of, meets_retire};
 ghost use Rattle.sr_law.specs.Same.{meets_same};
@@ -16,10 +17,10 @@ ghost use Rattle.sr_audit.specs.Lately.{Falls};
 use crate::audit::Audit;
 use crate::clashes::may_clash;
 use crate::lately::rises;
-use sr_base::{Key, Kind};
+use sr_base::{Key, Kind, Version};
 use sr_law::{
     Clause, HeldBy, Line, Opening, Setup, Verdict, goes_on, has_pool, in_range, is_opening_give,
-    meets_cause, meets_number, meets_retire, opened_by,
+    meets_cause, meets_retire, opened_by,
 };
 
 // A pool that is given exists, and comes after those that its virtual address was given; the one that it switches to is the last given.
@@ -148,6 +149,34 @@ fn meets_newer(audit: &Audit, setup: &Setup, before: &[Line], line: &Line) -> bo
     }
 }
 
+// The version is the last one of this virtual address, or an open connection has it.
+fn is_in_use(audit: &Audit, setup: &Setup, before: &[Line], vip: u8, version: Version) -> bool
+    requires { Tells setup.now audit.now (reverse before.now) }
+    ensures { result ≡ is_in_use (reverse before.now) vip version }
+{
+    let last = match audit.givings.last(vip) {
+        Some(giving) => giving.version.number() == version.number(),
+        None => false,
+    };
+    last || audit.holders.hold(vip, version.number())
+}
+
+// A version that is given after the first lines is one of the shape and isn't in use.
+#[tactic(auto, unfolding(sr_law::specs::Number::meets_number))]
+fn meets_number(audit: &Audit, setup: &Setup, before: &[Line], line: &Line) -> bool
+    requires { Tells setup.now audit.now (reverse before.now) }
+    ensures { result ≡ meets_number setup.now (reverse before.now) line.now }
+{
+    match *line {
+        Line::Given { vip, version, .. } => {
+            before.len() < setup.pools.vips()
+                || (version.number() < setup.shape.versions
+                    && !is_in_use(audit, setup, before, vip, version))
+        }
+        _ => true,
+    }
+}
+
 // It opens a connection.
 fn is_opener(kind: Kind) -> bool
     ensures { result ≡ is_opener kind }
@@ -270,7 +299,7 @@ pub(crate) fn broken(
     if !meets_newer(audit, setup, before, line) {
         return Some(Clause::Newer);
     }
-    if !meets_number(setup, before, line) {
+    if !meets_number(audit, setup, before, line) {
         return Some(Clause::Number);
     }
     if !has_cause(audit, setup, before, line) {

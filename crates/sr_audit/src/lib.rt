@@ -9,6 +9,7 @@
 //! | What a version was last given | `versions` |
 //! | What a virtual address was last switched to | `switches` |
 //! | Whether a connection is open, and how it was opened | `connections` |
+//! | Whether an open connection has a version | `holders` |
 //! | Whether a server was taken down | `downs` |
 //! | What an update that holds its virtual address did since | `holds` |
 //! | Which places of a filter may be set since an update records | `filters` |
@@ -21,7 +22,7 @@
 //! | After the walk: whether each packet has its final line | `final_lines`; `pairing`: `answers`, `held_counts` |
 //!
 //! `judge` asks them, and asks the plain bodies of `sr_law` what has no index yet: why openers found their ring full,
-//! whether a version is free, and whether a connection was quiet. `walk` goes over the lines. `counts` counts openings and switches.
+//! and whether a connection was quiet. `walk` goes over the lines. `counts` counts openings and switches.
 #![tactic(auto)]
 
 mod answers;
@@ -35,6 +36,7 @@ mod final_lines;
 mod greatest_given;
 mod greatest_refused;
 mod held_counts;
+mod holders;
 mod holds;
 mod judge;
 mod last_givings;

@@ -6,7 +6,7 @@ use Rattle.sr_audit.proofs.audit.Audit.absorb.Goals as goal
 pub returns : goal.returns
 returns c =
     let own : c.setup.inside.shape ≡ c.args.setup.now.shape = ap (λ s. s.shape) c.setup.view_is in
-    on_ok_weaker c.absorb-13.result (λ places before size t. record {
+    on_ok_weaker c.absorb-14.result (λ places before size t. record {
       vips = c.absorb.ensures.vips ∙ t.vips;
       update = c.absorb.ensures.kept before size t.update;
       versions = c.absorb-2.ensures before t.versions;
@@ -16,10 +16,11 @@ returns c =
           (c.in_ok-absorb.ensures before t.givings (subst (λ s. TellsFilters s.filter_bits c.args.self.now.filters before) (sym own) t.filters));
       givings = c.in_ok-absorb-2.ensures before t.givings;
       switches = c.in_ok-absorb-3.ensures before t.switches;
-      connections = c.in_ok-absorb-4.ensures before t.connections;
-      downs = c.in_ok-absorb-5.ensures before t.downs;
-      holds = c.in_ok-absorb-6.ensures before t.holds;
-      given = c.in_ok-absorb-7.ensures before t.given;
-      rows = c.in_ok-absorb-8.ensures before t.rows;
+      holders = c.in_ok-absorb-4.ensures before t.connections t.holders;
+      connections = c.in_ok-absorb-5.ensures before t.connections;
+      downs = c.in_ok-absorb-6.ensures before t.downs;
+      holds = c.in_ok-absorb-7.ensures before t.holds;
+      given = c.in_ok-absorb-8.ensures before t.given;
+      rows = c.in_ok-absorb-9.ensures before t.rows;
       places = places before t.places;
-    }) c.absorb-13.ensures
+    }) c.absorb-14.ensures
