@@ -38,7 +38,7 @@ returns-in-Ok-Some-Replay-clause-complete g c command is =
     let known : Some (Replay script) ≡ command_of (map string_bytes c.args.words.now) =
     of_words c.in-Ok-Some-Replay.field-0 (read.Replay c.in-Ok-Some-Replay.script) (command_of (map string_bytes c.args.words.now)) c.in-Ok-Some-Replay.ensures.value (c.in-Ok-Some-Replay.field-0-is ∙ ap Some c.in-Ok-Some-Replay.field-0-0-is) in
     completes (Replay script) command (command_of (map string_bytes c.args.words.now)) c.run_played.result before after known is
-    (λ valid none. play_done script ByOrder c.run_played.result before after valid.0 valid.1 ran.plays ran.faults none)
+    (λ valid none. play_done script OnThreads c.run_played.result before after valid.0 valid.1 ran.plays ran.faults none)
 
 pub returns-in-Ok-Some-Steps-clause-complete : goal.returns-in-Ok-Some-Steps-clause-complete
 returns-in-Ok-Some-Steps-clause-complete g c command is =
