@@ -7,6 +7,7 @@ pub mod Greatest
 pub mod HeldOpen
 pub mod Holding
 pub mod Known
+pub mod Ringing
 pub mod Tables
 pub mod Telling
 pub mod Updating

@@ -16,6 +16,7 @@ use Rattle.sr_audit.specs.LastSweep.{TellsSweep}
 use Rattle.sr_audit.specs.LastUpdate.{TellsUpdate}
 use Rattle.sr_audit.specs.LiveRows.{TellsRows}
 use Rattle.sr_audit.specs.Places.{TellsPlaces}
+use Rattle.sr_audit.specs.Rings.{TellsRings}
 use Rattle.sr_audit.specs.Switches.{TellsSwitches}
 use Rattle.sr_audit.specs.Versions.{TellsVersions}
 
@@ -36,6 +37,7 @@ pub record Tells (setup : SetupView) (audit : Audit) (before : List Line) : Type
   pub filters : TellsFilters setup.shape.filter_bits audit.filters before
   pub holds : TellsHolds audit.holds before
   pub places : TellsPlaces audit.places before
+  pub rings : TellsRings audit.rings before
   pub given : TellsGreatest audit.given before
   pub refused : TellsRefused audit.refused before
   pub rows : TellsRows audit.rows before

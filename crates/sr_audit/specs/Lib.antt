@@ -16,5 +16,6 @@ pub mod LastUpdate
 pub mod Lately
 pub mod LiveRows
 pub mod Places
+pub mod Rings
 pub mod Switches
 pub mod Versions

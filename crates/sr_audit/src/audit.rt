@@ -15,6 +15,7 @@ use crate::last_sweep::LastSweep;
 use crate::last_update::LastUpdate;
 use crate::live_rows::LiveRows;
 use crate::places::Places;
+use crate::rings::Rings;
 use crate::switches::Switches;
 use crate::versions::Versions;
 use sr_law::{Line, Setup};
@@ -33,6 +34,7 @@ pub(crate) struct Audit {
     pub(crate) holds: Holds,
     pub(crate) filters: Filters,
     pub(crate) places: Places,
+    pub(crate) rings: Rings,
     pub(crate) given: GreatestGiven,
     pub(crate) refused: GreatestRefused,
     pub(crate) rows: LiveRows,
@@ -55,6 +57,7 @@ impl Audit {
             holds: Holds::new(alloc),
             filters: Filters::new(alloc),
             places: Places::new(alloc),
+            rings: Rings::new(alloc),
             given: GreatestGiven::new(alloc),
             refused: GreatestRefused::new(),
             rows: LiveRows::new(alloc),
@@ -87,6 +90,7 @@ impl Audit {
         self.holds.absorb(line)?;
         self.given.absorb(line)?;
         self.rows.absorb(line)?;
+        self.rings.absorb(line)?;
         self.places.absorb(line)
     }
 }

@@ -1,10 +1,8 @@
 ghost use Rattle.std.specs.Prelude.{◌≡◌, ◌≤◌, List, reverse, length};
-ghost use Rattle.sr_law.specs.Cause.{is_opener, meets_cause};
 ghost use Rattle.sr_law.specs.Groups.{keeps_groups, names_next_pool};
-ghost use Rattle.sr_law.specs.Held.{may_transit};
 ghost use Rattle.sr_law.specs.Lawful.{broken};
 ghost use Rattle.sr_law.specs.Newer.{is_new_pool, meets_newer};
-ghost use Rattle.sr_law.specs.Number.{is_in_use, meets_number};
+ghost use Rattle.sr_law.specs.Number.{meets_number};
 ghost use Rattle.sr_law.specs.Order.{meets_order, refuses_next};
 ghost use Rattle.sr_law.specs.Retire.{endings_of, meets_retire};
 ghost use Rattle.sr_law.specs.Same.{meets_same};
@@ -15,12 +13,12 @@ ghost use Rattle.sr_audit.specs.Clashes.{KeepsPlaces};
 ghost use Rattle.sr_audit.specs.Lately.{Falls};
 
 use crate::audit::Audit;
-use crate::clashes::may_clash;
+use crate::causes::has_cause;
+use crate::in_use::is_in_use;
 use crate::lately::rises;
-use sr_base::{Key, Kind, Version};
 use sr_law::{
-    Clause, HeldBy, Line, Opening, Setup, Verdict, goes_on, has_pool, in_range, is_opening_give,
-    meets_cause, meets_retire, opened_by,
+    Clause, Line, Opening, Setup, goes_on, has_pool, in_range, is_opening_give, meets_retire,
+    opened_by,
 };
 
 // A pool that is given exists, and comes after those that its virtual address was given; the one that it switches to is the last given.
@@ -149,18 +147,6 @@ fn meets_newer(audit: &Audit, setup: &Setup, before: &[Line], line: &Line) -> bo
     }
 }
 
-// The version is the last one of this virtual address, or an open connection has it.
-fn is_in_use(audit: &Audit, setup: &Setup, before: &[Line], vip: u8, version: Version) -> bool
-    requires { Tells setup.now audit.now (reverse before.now) }
-    ensures { result ≡ is_in_use (reverse before.now) vip version }
-{
-    let last = match audit.givings.last(vip) {
-        Some(giving) => giving.version.number() == version.number(),
-        None => false,
-    };
-    last || audit.holders.hold(vip, version.number())
-}
-
 // A version that is given after the first lines is one of the shape and isn't in use.
 #[tactic(auto, unfolding(sr_law::specs::Number::meets_number))]
 fn meets_number(audit: &Audit, setup: &Setup, before: &[Line], line: &Line) -> bool
@@ -171,88 +157,9 @@ fn meets_number(audit: &Audit, setup: &Setup, before: &[Line], line: &Line) -> b
         Line::Given { vip, version, .. } => {
             before.len() < setup.pools.vips()
                 || (version.number() < setup.shape.versions
-                    && !is_in_use(audit, setup, before, vip, version))
+                    && !is_in_use(audit, setup, before, vip, version.number()))
         }
         _ => true,
-    }
-}
-
-// It opens a connection.
-fn is_opener(kind: Kind) -> bool
-    ensures { result ≡ is_opener kind }
-{
-    match kind {
-        Kind::Opener => true,
-        _ => false,
-    }
-}
-
-// An update wasn't finished before the start of the opener, and the filter may hold it.
-#[tactic(auto, unfolding(sr_law::specs::Held::may_transit))]
-fn may_transit(audit: &Audit, setup: &Setup, before: &[Line], key: Key, start: u64) -> bool
-    requires shape { IsShaped setup.now.shape }
-    requires falls { Falls (reverse before.now) }
-    requires tells { Tells setup.now audit.now (reverse before.now) }
-    ensures { result ≡ may_transit setup.now.shape (reverse before.now) key start }
-{
-    audit.holds.is_unfinished(key.vip, start) && audit.filters.may_hold(&setup.shape, key)
-}
-
-// A line has its cause.
-#[tactic(auto, unfolding(sr_law::specs::Cause::meets_cause))]
-fn has_cause(audit: &Audit, setup: &Setup, before: &[Line], line: &Line) -> bool
-    requires shape { IsShaped setup.now.shape }
-    requires vips { length setup.now.pools ≤ 16 }
-    requires falls { Falls (reverse before.now) }
-    requires kept { KeepsPlaces setup.now.shape (reverse before.now) }
-    requires tells { Tells setup.now audit.now (reverse before.now) }
-    ensures { result ≡ meets_cause setup.now (reverse before.now) line.now }
-{
-    match *line {
-        Line::Packet {
-            entered,
-            verdict: Verdict::To { server, .. },
-            ..
-        } => !audit.downs.knows(server, entered),
-        Line::Packet {
-            entered,
-            key,
-            kind,
-            verdict: Verdict::Held(HeldBy::Clash),
-            ..
-        } => { is_opener(kind) && may_clash(&audit.places, &setup.shape, before, key, entered) }
-        Line::Packet {
-            entered,
-            key,
-            kind,
-            verdict: Verdict::Held(HeldBy::Hold),
-            ..
-        } => is_opener(kind) && audit.holds.may_hold(key.vip, entered),
-        Line::Packet {
-            entered,
-            key,
-            kind,
-            verdict: Verdict::Held(HeldBy::Transit),
-            ..
-        } => is_opener(kind) && may_transit(audit, setup, before, key, entered),
-        Line::Answer {
-            verdict: Verdict::To { server, .. },
-            ..
-        } => !audit.downs.has(server),
-        Line::Packet {
-            verdict: Verdict::Down { server, .. },
-            ..
-        } => audit.downs.has(server),
-        Line::Answer {
-            verdict: Verdict::Down { server, .. },
-            ..
-        } => audit.downs.has(server),
-        Line::Answer {
-            key,
-            verdict: Verdict::NoPlace,
-            ..
-        } => audit.rows.are_full(&setup.shape, key),
-        _ => meets_cause(setup, before, line),
     }
 }
 

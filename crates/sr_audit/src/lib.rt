@@ -15,18 +15,20 @@
 //! | Which places of a filter may be set since an update records | `filters` |
 //! | Whether an entry that an opener matches stands, or was cleared lately | `clashes` |
 //! | Who has a place of the tables | `places` |
+//! | How many words a pipe's ring may have got since its last answer | `rings`: `ring` |
 //! | Whether a pool comes after those that its virtual address was given | `greatest_given` |
 //! | Whether a change comes after those that were refused | `greatest_refused` |
 //! | Whether an entry is live in each row of a key's group | `live_rows` |
 //! | Which sweep was the last | `last_sweep` |
 //! | After the walk: whether each packet has its final line | `final_lines`; `pairing`: `answers`, `held_counts` |
 //!
-//! `judge` asks them, and asks the plain bodies of `sr_law` what has no index yet: why openers found their ring full,
-//! and whether a connection was quiet. `walk` goes over the lines. `counts` counts openings and switches.
+//! `judge` asks them, with `causes` and `in_use`, and asks the plain bodies of `sr_law` what has no index yet: whether a connection was quiet.
+//! `walk` goes over the lines. `counts` counts openings and switches.
 #![tactic(auto)]
 
 mod answers;
 mod audit;
+mod causes;
 mod clashes;
 mod connections;
 mod counts;
@@ -38,6 +40,7 @@ mod greatest_refused;
 mod held_counts;
 mod holders;
 mod holds;
+mod in_use;
 mod judge;
 mod last_givings;
 mod last_sweep;
@@ -46,6 +49,8 @@ mod lately;
 mod live_rows;
 mod pairing;
 mod places;
+mod ring;
+mod rings;
 mod switches;
 mod versions;
 mod walk;

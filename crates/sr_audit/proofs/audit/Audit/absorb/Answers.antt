@@ -6,7 +6,7 @@ use Rattle.sr_audit.proofs.audit.Audit.absorb.Goals as goal
 pub returns : goal.returns
 returns c =
     let own : c.setup.inside.shape ≡ c.args.setup.now.shape = ap (λ s. s.shape) c.setup.view_is in
-    on_ok_weaker c.absorb-14.result (λ places before size t. record {
+    on_ok_weaker c.absorb-15.result (λ places before size t. record {
       vips = c.absorb.ensures.vips ∙ t.vips;
       update = c.absorb.ensures.kept before size t.update;
       versions = c.absorb-2.ensures before t.versions;
@@ -22,5 +22,6 @@ returns c =
       holds = c.in_ok-absorb-7.ensures before t.holds;
       given = c.in_ok-absorb-8.ensures before t.given;
       rows = c.in_ok-absorb-9.ensures before t.rows;
+      rings = c.in_ok-absorb-10.ensures before t.rings;
       places = places before t.places;
-    }) c.absorb-14.ensures
+    }) c.absorb-15.ensures

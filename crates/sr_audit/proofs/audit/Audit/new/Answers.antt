@@ -14,8 +14,9 @@ returns c = record {
   holds = c.new-8.ensures;
   filters = c.new-9.ensures c.args.setup.now.shape.filter_bits;
   places = c.new-10.ensures;
-  given = c.new-11.ensures;
-  refused = c.new-12.ensures;
-  rows = c.new-13.ensures;
-  sweep = c.new-14.ensures;
+  rings = c.new-11.ensures;
+  given = c.new-12.ensures;
+  refused = c.new-13.ensures;
+  rows = c.new-14.ensures;
+  sweep = c.new-15.ensures;
 }
