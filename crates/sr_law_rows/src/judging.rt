@@ -17,8 +17,8 @@ fn breach(answer: Result<(), CheckRefusal>) -> Option<(usize, Clause)> {
     }
 }
 
-// What both bodies answer: the line and the clause that are broken first. A setup that they can't take is Text at 0, and so are two answers.
-fn judged(alloc: Global, setup: &Setup, lines: &[Line]) -> Option<(usize, Clause)> {
+/// What both bodies answer: the line and the clause that are broken first. A setup that they can't take is Text at 0, and so are two answers.
+pub(crate) fn judged(alloc: Global, setup: &Setup, lines: &[Line]) -> Option<(usize, Clause)> {
     let vips = setup.pools.vips();
     if 16 < vips || Layout::new(setup.shape, vips as u8, setup.servers).is_err() {
         return Some((0, Clause::Text));
@@ -31,8 +31,13 @@ fn judged(alloc: Global, setup: &Setup, lines: &[Line]) -> Option<(usize, Clause
     }
 }
 
-// The lines with these in place of the one at this position, from 1.
-fn edited(alloc: Global, lines: &[Line], number: u32, new: &[Line]) -> Result<Vec<Line>, Fail> {
+/// The lines with these in place of the one at this position, from 1.
+pub(crate) fn edited(
+    alloc: Global,
+    lines: &[Line],
+    number: u32,
+    new: &[Line],
+) -> Result<Vec<Line>, Fail> {
     let mut after = Vec::new(alloc);
     let mut position = 0u32;
     for old in lines {

@@ -1,8 +1,11 @@
 //! The worked rows of lawful lists, and edits of them, judged by both bodies of the auditor.
 //!
-//! `row_texts` has the rows; `words` and `row` read one, its lines as the auditor's command reads a log; `judging` judges it and each of its edits.
+//! `row_texts` has the rows; `words` and `row` read one, its lines as the auditor's command reads a log; `judging` judges it and each of its edits;
+//! `changing` has both bodies judge lists that differ from a row's in one place.
 #![tactic(auto)]
 
+#[cfg(test)]
+mod changing;
 #[cfg(test)]
 mod judging;
 #[cfg(test)]

@@ -40,13 +40,21 @@ pub(crate) fn is_edit(line: &str) -> bool {
     line.starts_with("edit ") || line.starts_with("drop ")
 }
 
-/// The lines of a log without its head.
-pub(crate) fn printed(alloc: Global, lines: &str) -> Result<Vec<Line>, Fail> {
+/// The lines of a log without its head; None where one is no line of a log.
+pub(crate) fn printed_if(alloc: Global, lines: &str) -> Result<Option<Vec<Line>>, Fail> {
     let mut text = String::from_str(alloc, "silkroad 1\n")?;
     text.push_str(lines)?;
     let mut source = SureSource::new(text.into_bytes(), 4096);
     match read_lines(alloc, &mut source) {
-        Ok(log) => Ok(log.lines),
-        Err(_) => Err(Fail::from("a line that is none of a log")),
+        Ok(log) => Ok(Some(log.lines)),
+        Err(_) => Ok(None),
+    }
+}
+
+/// The lines of a log without its head, of which each is one.
+pub(crate) fn printed(alloc: Global, lines: &str) -> Result<Vec<Line>, Fail> {
+    match printed_if(alloc, lines)? {
+        Some(lines) => Ok(lines),
+        None => Err(Fail::from("a line that is none of a log")),
     }
 }
