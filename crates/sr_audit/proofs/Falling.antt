@@ -1,5 +1,5 @@
 -- A list of which no line breaks a clause so far falls from the newest line on; so the lines that can cross the next one are its newest.
-use Rattle.std.proofs.Common.{◌≡◌, ℕ, ◌+◌, ◌<◌, ◌≤◌, Bool, true, false, not, ◌&&◌, ◌||◌, cond, List, [], ◌∷◌, length, None, refl, sym, ap, ◌∙◌, inl, inr, arith}
+use Rattle.std.proofs.Common.{◌≡◌, ℕ, ◌+◌, ◌<◌, ◌≤◌, Bool, true, false, not, ◌&&◌, ◌||◌, cond, List, [], ◌∷◌, length, None, refl, sym, ap, ◌∙◌, inl, inr, true≢false, arith}
 use Rattle.std.specs.List.{list_any, take_while}
 use Rattle.std.specs.Prelude.{nat_eq, nat_le, nat_lt}
 use Rattle.std.proofs.lemmas.Bool.{and_parts, cases_Bool, ltb-true, leb-true, leb-false}
@@ -11,29 +11,35 @@ use Rattle.sr_law.specs.Groups.{keeps_groups}
 use Rattle.sr_law.specs.Lawful.{broken, breach_at, first_broken}
 use Rattle.sr_law.specs.Order.{meets_order, refuses_next}
 use Rattle.sr_law.specs.Ranges.{in_range, if_below, vip_of, pipe_of, server_named, names_own_place}
-use Rattle.sr_law.specs.Retire.{EndingPacket}
-use Rattle.sr_law.specs.Rising.{after_last, has_two_ticks, is_in_time, share_tick, has_new_ticks, one_by_one, rises}
+use Rattle.sr_law.specs.Retire.{EndingPacket, last_sweep}
+use Rattle.sr_law.specs.Rising.{after_last, has_two_ticks, is_in_time, share_tick, has_new_ticks, one_by_one, rises, was_controlling}
 use Rattle.sr_law.specs.Setup.{SetupView}
 use Rattle.sr_law.specs.Taken.{keeps_places}
 use Rattle.sr_law.specs.Ticks.{out_of, start_of}
 use Rattle.sr_law.proofs.Breaches.{first_parts, at_none}
 use Rattle.sr_law.proofs.Clauses.{meets}
 use Rattle.sr_audit.specs.Clashes.{KeepsPlaces}
+use Rattle.sr_audit.specs.Used.{IsBegunFrom, SweepsRise, begun}
 use Rattle.sr_audit.specs.Lately.{AreOut, Falls, is_in_way, crosses, is_late, crosses_lately}
 
--- a line that breaks no clause rises
-rises_of : (setup : SetupView) (endings : List EndingPacket) (before : List Line) (line : Line) → broken setup endings before line ≡ None → rises before line ≡ true
+-- a line that stands in order rises
+in_order : (setup : SetupView) (before : List Line) (line : Line) → meets_order setup before line ≡ true → rises before line ≡ true
 unfolding meets_order
-rises_of setup endings before line e =
-    let m = meets setup endings before line e in
+in_order setup before line e =
     let groups = keeps_groups setup before line in
     let rising = rises before line in
     let ranged = in_range setup line in
     let placed = keeps_places before line in
-    let a = and_parts (groups && rising && ranged && placed) (refuses_next before line) m.order in
+    let a = and_parts (groups && rising && ranged && placed) (refuses_next before line) e in
     let b = and_parts (groups && rising && ranged) placed a.0 in
     let c = and_parts (groups && rising) ranged b.0 in
     (and_parts groups rising c.0).1
+
+-- and so does one that breaks no clause
+rises_of : (setup : SetupView) (endings : List EndingPacket) (before : List Line) (line : Line) → broken setup endings before line ≡ None → rises before line ≡ true
+rises_of setup endings before line e =
+    let m = meets setup endings before line e in
+    in_order setup before line m.order
 
 rise_parts : (before : List Line) (line : Line) → rises before line ≡ true → (after_last before line ≡ true) × (is_in_time line ≡ true)
 unfolding rises
@@ -58,6 +64,10 @@ out_more [] line falls e = tt
 out_more (last ∷ before) line falls e =
     let h : out_of last < out_of line = ltb-true (out_of last) (out_of line) e in
     (h, wider before (out_of last) (out_of line) (omega arith) falls.1)
+
+-- the lines before one that stands in order were out before it
+pub out_in_order : (setup : SetupView) (before : List Line) (line : Line) → Falls before → meets_order setup before line ≡ true → AreOut (out_of line) before
+out_in_order setup before line fall e = out_more before line fall (rise_parts before line (in_order setup before line e)).0
 
 -- a list of which no line breaks a clause falls
 pub falls : (setup : SetupView) (endings : List EndingPacket) (before : List Line) → first_broken setup endings before ≡ None → Falls before
@@ -97,6 +107,43 @@ places_kept setup endings (line ∷ before) e =
     let none = at_none (length before + 1) (broken setup endings before line) parts.1 in
     let placed = places_of setup endings before line none in
     (placed.0, placed.1, places_kept setup endings before parts.0)
+
+-- a sweep that crosses no line of the controller's began no sooner than the last one
+or_second : (a b : Bool) → (a || b) ≡ false → b ≡ false
+or_second true b e = absurd (true≢false e)
+or_second false b e = e
+
+or_first : (a b : Bool) → (a || b) ≡ false → a ≡ false
+or_first true b e = e
+or_first false b e = refl
+
+not_true : (b : Bool) → not b ≡ true → b ≡ false
+not_true true e = absurd (true≢false (sym e))
+not_true false e = refl
+
+begins_later : (before : List Line) (from : ℕ) → Falls before → list_any (was_controlling from) before ≡ false → begun (last_sweep before) ≤ from
+begins_later [] from fall e = omega arith
+begins_later (Swept number start to at_ms ∷ before) from fall e =
+    let gone : to < from = leb-false from to (or_first (nat_le from to) (list_any (was_controlling from) before) e) in
+    omega (arith, fall.0, gone)
+begins_later (line ∷ before) from fall e = begins_later before from fall.2 (or_second (was_controlling from line) (list_any (was_controlling from) before) e)
+
+begun_from : (before : List Line) (line : Line) → Falls before → rises before line ≡ true → IsBegunFrom (begun (last_sweep before)) line
+unfolding rises
+begun_from before (Swept number from to at_ms) fall e =
+    let line : Line = Swept number from to at_ms in
+    let a = and_parts (after_last before line && is_in_time line && has_new_ticks before line) (one_by_one before line) e in
+    begins_later before from fall (not_true (list_any (was_controlling from) before) a.1)
+begun_from before line fall e = tt
+
+-- no sweep of a list of which no line breaks a clause began before the one before it did
+pub sweeps_rise : (setup : SetupView) (endings : List EndingPacket) (before : List Line) → first_broken setup endings before ≡ None → SweepsRise before
+unfolding first_broken
+sweeps_rise setup endings [] e = tt
+sweeps_rise setup endings (line ∷ before) e =
+    let parts = first_parts (first_broken setup endings before) (breach_at (length before + 1) (broken setup endings before line)) e in
+    let none = at_none (length before + 1) (broken setup endings before line) parts.1 in
+    (begun_from before line (falls setup endings before parts.0) (rises_of setup endings before line none), sweeps_rise setup endings before parts.0)
 
 -- ---- what was out before a line's start doesn't cross it
 

@@ -1,14 +1,17 @@
 pub mod Alone
 pub mod Answering
 pub mod Clashing
+pub mod Ending
 pub mod Falling
 pub mod Filtering
 pub mod Greatest
 pub mod HeldOpen
 pub mod Holding
+pub mod Judging
 pub mod Known
 pub mod Ringing
 pub mod Tables
 pub mod Telling
 pub mod Updating
+pub mod Using
 pub mod Walked

@@ -13,11 +13,14 @@ use Rattle.sr_audit.specs.Holders.{TellsHolders}
 use Rattle.sr_audit.specs.Holds.{TellsHolds}
 use Rattle.sr_audit.specs.LastGivings.{TellsGivings}
 use Rattle.sr_audit.specs.LastSweep.{TellsSweep}
+use Rattle.sr_audit.specs.LastTicks.{TellsPlaced, TellsRetired}
 use Rattle.sr_audit.specs.LastUpdate.{TellsUpdate}
 use Rattle.sr_audit.specs.LiveRows.{TellsRows}
+use Rattle.sr_audit.specs.Numbered.{TellsSweeps}
 use Rattle.sr_audit.specs.Places.{TellsPlaces}
 use Rattle.sr_audit.specs.Rings.{TellsRings}
 use Rattle.sr_audit.specs.Switches.{TellsSwitches}
+use Rattle.sr_audit.specs.Used.{TellsUsed}
 use Rattle.sr_audit.specs.Versions.{TellsVersions}
 
 -- no line of these, the newest first, breaks a clause by the lines before it
@@ -42,3 +45,7 @@ pub record Tells (setup : SetupView) (audit : Audit) (before : List Line) : Type
   pub refused : TellsRefused audit.refused before
   pub rows : TellsRows audit.rows before
   pub sweep : TellsSweep audit.sweep before
+  pub sweeps : TellsSweeps audit.sweeps before
+  pub placed : TellsPlaced audit.placed before
+  pub retired : TellsRetired audit.retired before
+  pub used : TellsUsed audit.used before

@@ -4,6 +4,7 @@ pub mod Clashes
 pub mod Connections
 pub mod Counts
 pub mod Downs
+pub mod Endings
 pub mod Filters
 pub mod Greatest
 pub mod HeldCounts
@@ -12,10 +13,13 @@ pub mod Holds
 pub mod Index
 pub mod LastGivings
 pub mod LastSweep
+pub mod LastTicks
 pub mod LastUpdate
 pub mod Lately
 pub mod LiveRows
+pub mod Numbered
 pub mod Places
 pub mod Rings
 pub mod Switches
+pub mod Used
 pub mod Versions

@@ -1,6 +1,5 @@
-ghost use Rattle.std.specs.Prelude.{◌≡◌, ◌∷◌, List, [], IfOk, OnOk, length};
+ghost use Rattle.std.specs.Prelude.{◌∷◌, [], IfOk, OnOk, reverse};
 ghost use Rattle.sr_law.specs.Shaped.{IsShaped};
-ghost use Rattle.sr_law.specs.declared.line.Line.{Line as ALine};
 ghost use Rattle.sr_audit.specs.Audit.{Tells};
 
 use crate::connections::Connections;
@@ -11,12 +10,16 @@ use crate::greatest_refused::GreatestRefused;
 use crate::holders::Holders;
 use crate::holds::Holds;
 use crate::last_givings::LastGivings;
+use crate::last_placed::LastPlaced;
+use crate::last_retired::LastRetired;
 use crate::last_sweep::LastSweep;
 use crate::last_update::LastUpdate;
 use crate::live_rows::LiveRows;
 use crate::places::Places;
 use crate::rings::Rings;
+use crate::sweeps::Sweeps;
 use crate::switches::Switches;
+use crate::used::Used;
 use crate::versions::Versions;
 use sr_law::{Line, Setup};
 use std::alloc::{AllocError, Global};
@@ -39,6 +42,10 @@ pub(crate) struct Audit {
     pub(crate) refused: GreatestRefused,
     pub(crate) rows: LiveRows,
     pub(crate) sweep: LastSweep,
+    pub(crate) sweeps: Sweeps,
+    pub(crate) placed: LastPlaced,
+    pub(crate) retired: LastRetired,
+    pub(crate) used: Used,
 }
 
 impl Audit {
@@ -62,22 +69,25 @@ impl Audit {
             refused: GreatestRefused::new(),
             rows: LiveRows::new(alloc),
             sweep: LastSweep::new(),
+            sweeps: Sweeps::new(alloc),
+            placed: LastPlaced::new(alloc),
+            retired: LastRetired::new(alloc),
+            used: Used::new(alloc),
         })
     }
 
-    // One line more, the one of this number, from 0.
+    // One line more, after these.
     pub(crate) fn absorb(
         &mut self,
         setup: &Setup,
-        number: usize,
+        before: &[Line],
         line: &Line,
     ) -> Result<(), AllocError>
         requires { IsShaped setup.now.shape }
-        ensures { OnOk result ((before : List ALine) → length before ≡ number
-            → Tells setup.now self.old before
-            → Tells setup.now self.new (line.now ∷ before)) }
+        ensures { OnOk result (Tells setup.now self.old (reverse before.now)
+            → Tells setup.now self.new (line.now ∷ reverse before.now)) }
     {
-        self.update.absorb(number, line);
+        self.update.absorb(before.len(), line);
         self.versions.absorb(line);
         self.refused.absorb(line);
         self.sweep.absorb(line);
@@ -91,6 +101,10 @@ impl Audit {
         self.given.absorb(line)?;
         self.rows.absorb(line)?;
         self.rings.absorb(line)?;
+        self.sweeps.absorb(line)?;
+        self.placed.absorb(line)?;
+        self.retired.absorb(line)?;
+        self.used.absorb(before, line)?;
         self.places.absorb(line)
     }
 }

@@ -7,18 +7,23 @@ ghost use Rattle.sr_law.specs.Order.{meets_order, refuses_next};
 ghost use Rattle.sr_law.specs.Retire.{endings_of, meets_retire};
 ghost use Rattle.sr_law.specs.Same.{meets_same};
 ghost use Rattle.sr_law.specs.Server.{meets_server};
+ghost use Rattle.sr_law.specs.declared.line.Line.{Line as ALine};
+ghost use Rattle.sr_law.specs.Ticks.{out_of};
 ghost use Rattle.sr_law.specs.Shaped.{IsShaped};
 ghost use Rattle.sr_audit.specs.Audit.{IsLawfulSoFar, Tells};
 ghost use Rattle.sr_audit.specs.Clashes.{KeepsPlaces};
-ghost use Rattle.sr_audit.specs.Lately.{Falls};
+ghost use Rattle.sr_audit.specs.Endings.{TellsEndings};
+ghost use Rattle.sr_audit.specs.Lately.{AreOut, Falls};
+ghost use Rattle.sr_audit.specs.Used.{SweepsRise};
 
 use crate::audit::Audit;
 use crate::causes::has_cause;
+use crate::endings::Endings;
 use crate::in_use::is_in_use;
 use crate::lately::rises;
+use crate::retiring::may_retire;
 use sr_law::{
-    Clause, Line, Opening, Setup, goes_on, has_pool, in_range, is_opening_give, meets_retire,
-    opened_by,
+    Clause, Line, Opening, Setup, goes_on, has_pool, in_range, is_opening_give, opened_by,
 };
 
 // A pool that is given exists, and comes after those that its virtual address was given; the one that it switches to is the last given.
@@ -165,25 +170,35 @@ fn meets_number(audit: &Audit, setup: &Setup, before: &[Line], line: &Line) -> b
 
 // A sweep is the next one, and a connection that is retired was open, and quiet.
 #[tactic(auto, unfolding(sr_law::specs::Retire::meets_retire))]
-fn may_retire(audit: &Audit, setup: &Setup, all: &[Line], before: &[Line], line: &Line) -> bool
-    requires { Tells setup.now audit.now (reverse before.now) }
-    ensures { result ≡ meets_retire setup.now (endings_of (reverse all.now)) (reverse before.now) line.now }
+fn meets_retire(
+    audit: &Audit,
+    endings: &Endings,
+    setup: &Setup,
+    before: &[Line],
+    line: &Line,
+) -> bool
+    requires falls { Falls (reverse before.now) }
+    requires rise { SweepsRise (reverse before.now) }
+    requires tells { Tells setup.now audit.now (reverse before.now) }
+    ensures { (all : List ALine) → TellsEndings endings.now all (out_of line.now)
+        → result ≡ meets_retire setup.now (endings_of all) (reverse before.now) line.now }
 {
     match *line {
         Line::Swept { number, at_ms, .. } => {
             audit.sweep.is_next(setup.shape.idle_ms, number, at_ms)
         }
-        Line::Retired { .. } => meets_retire(setup, all, before, line),
+        Line::Retired { out, key } => may_retire(audit, endings, setup, before, key, out),
         _ => true,
     }
 }
 
-// The first clause that a line breaks, by the lines before it and the Ending lines of all.
+// The first clause that a line breaks, by the lines before it and the Ending packets of all lines: the index tells of those that entered
+// before this line was out, if the lines before it were.
 #[tactic(auto, unfolding(sr_law::specs::Lawful::broken))]
 pub(crate) fn broken(
     audit: &Audit,
+    endings: &Endings,
     setup: &Setup,
-    all: &[Line],
     before: &[Line],
     line: &Line,
 ) -> Option<Clause>
@@ -191,8 +206,11 @@ pub(crate) fn broken(
     requires vips { length setup.now.pools ≤ 16 }
     requires falls { Falls (reverse before.now) }
     requires kept { KeepsPlaces setup.now.shape (reverse before.now) }
+    requires rise { SweepsRise (reverse before.now) }
     requires tells { Tells setup.now audit.now (reverse before.now) }
-    ensures { result ≡ broken setup.now (endings_of (reverse all.now)) (reverse before.now) line.now }
+    ensures { (all : List ALine)
+        → (AreOut (out_of line.now) (reverse before.now) → TellsEndings endings.now all (out_of line.now))
+        → result ≡ broken setup.now (endings_of all) (reverse before.now) line.now }
 {
     if !meets_order(audit, setup, before, line) {
         return Some(Clause::Order);
@@ -212,7 +230,7 @@ pub(crate) fn broken(
     if !has_cause(audit, setup, before, line) {
         return Some(Clause::Cause);
     }
-    if !may_retire(audit, setup, all, before, line) {
+    if !meets_retire(audit, endings, setup, before, line) {
         return Some(Clause::Retire);
     }
     None

@@ -40,6 +40,13 @@ impl LastSweep {
         }
     }
 
+    // It, if there is one.
+    pub(crate) fn last(&self) -> Option<Sweep>
+        ensures { (before : List ALine) → TellsSweep self.now before → result ≡ last_sweep before }
+    {
+        self.sweep
+    }
+
     // Whether a sweep of this number and capture time may come next, after at least so many milliseconds.
     pub(crate) fn is_next(&self, idle_ms: u64, number: u64, at_ms: u64) -> bool
         ensures { (before : List ALine) → TellsSweep self.now before

@@ -19,11 +19,14 @@
 //! | Whether a pool comes after those that its virtual address was given | `greatest_given` |
 //! | Whether a change comes after those that were refused | `greatest_refused` |
 //! | Whether an entry is live in each row of a key's group | `live_rows` |
-//! | Which sweep was the last | `last_sweep` |
+//! | Which sweep was the last, and which has a number | `last_sweep`, `sweeps` |
+//! | When a connection was last placed, and last retired | `last_placed`, `last_retired` |
+//! | Whether it was quiet since a sweep | `used` |
+//! | Whether an Ending packet of any line ends it | `endings` |
+//! | Whether it may be retired | `retiring` |
 //! | After the walk: whether each packet has its final line | `final_lines`; `pairing`: `answers`, `held_counts` |
 //!
-//! `judge` asks them, with `causes` and `in_use`, and asks the plain bodies of `sr_law` what has no index yet: whether a connection was quiet.
-//! `walk` goes over the lines. `counts` counts openings and switches.
+//! `judge` asks them, with `causes` and `in_use`. `walk` goes over the lines. `counts` counts openings and switches.
 #![tactic(auto)]
 
 mod answers;
@@ -33,6 +36,7 @@ mod clashes;
 mod connections;
 mod counts;
 mod downs;
+mod endings;
 mod filters;
 mod final_lines;
 mod greatest_given;
@@ -43,15 +47,20 @@ mod holds;
 mod in_use;
 mod judge;
 mod last_givings;
+mod last_placed;
+mod last_retired;
 mod last_sweep;
 mod last_update;
 mod lately;
 mod live_rows;
 mod pairing;
 mod places;
+mod retiring;
 mod ring;
 mod rings;
+mod sweeps;
 mod switches;
+mod used;
 mod versions;
 mod walk;
 

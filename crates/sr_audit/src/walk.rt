@@ -6,12 +6,14 @@ ghost use Rattle.sr_law.specs.Shaped.{IsShaped};
 ghost use Rattle.sr_law.specs.declared.check_refusal.CheckRefusal.TheVariants.{Memory};
 
 use crate::audit::Audit;
+use crate::endings::Endings;
 use crate::final_lines::meets_final;
 use crate::judge::broken;
 use sr_law::{CheckRefusal, Clause, Line, Setup};
 use std::alloc::{AllocError, Global};
 
-// The first line that breaks a clause, and the first clause that it breaks: each line is judged by what is known of the lines before it.
+// The first line that breaks a clause, and the first clause that it breaks: each line is judged by what is known of the lines before it,
+// and of the Ending packets of all lines.
 fn first_broken(
     alloc: Global,
     setup: &Setup,
@@ -22,15 +24,17 @@ fn first_broken(
     ensures { IfOk result (λ first. first ≡ first_broken setup.now (endings_of (reverse lines.now)) (reverse lines.now)) }
 {
     let mut audit = Audit::new(alloc, setup)?;
+    let mut endings = Endings::of(alloc, lines)?;
     for i in 0..lines.len() {
         let line = &lines[i];
-        if let Some(clause) = broken(&audit, setup, lines, &lines[..i], line) {
+        endings.advance(line.out())?;
+        if let Some(clause) = broken(&audit, &endings, setup, &lines[..i], line) {
             return Ok(Some(CheckRefusal::Breach {
                 line: i + 1,
                 clause,
             }));
         }
-        audit.absorb(setup, i, line)?;
+        audit.absorb(setup, &lines[..i], line)?;
     }
     Ok(None)
 }

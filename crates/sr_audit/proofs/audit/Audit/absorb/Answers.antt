@@ -1,4 +1,5 @@
-use Rattle.std.proofs.Common.{◌≡◌, ◌∷◌, sym, ap, subst, ◌∙◌}
+use Rattle.std.proofs.Common.{◌≡◌, ◌∷◌, length, reverse, sym, ap, subst, ◌∙◌}
+use Rattle.std.proofs.lemmas.List.{length-reverse}
 use Rattle.std.proofs.lemmas.Result.{on_ok_weaker}
 use Rattle.sr_audit.specs.Filters.{TellsFilters}
 use Rattle.sr_audit.proofs.audit.Audit.absorb.Goals as goal
@@ -6,7 +7,9 @@ use Rattle.sr_audit.proofs.audit.Audit.absorb.Goals as goal
 pub returns : goal.returns
 returns c =
     let own : c.setup.inside.shape ≡ c.args.setup.now.shape = ap (λ s. s.shape) c.setup.view_is in
-    on_ok_weaker c.absorb-15.result (λ places before size t. record {
+    let before = reverse c.args.before.now in
+    let size : length before ≡ length c.args.before.now = length-reverse c.args.before.now in
+    on_ok_weaker c.absorb-19.result (λ places t. record {
       vips = c.absorb.ensures.vips ∙ t.vips;
       update = c.absorb.ensures.kept before size t.update;
       versions = c.absorb-2.ensures before t.versions;
@@ -23,5 +26,9 @@ returns c =
       given = c.in_ok-absorb-8.ensures before t.given;
       rows = c.in_ok-absorb-9.ensures before t.rows;
       rings = c.in_ok-absorb-10.ensures before t.rings;
+      sweeps = c.in_ok-absorb-11.ensures before t.sweeps;
+      placed = c.in_ok-absorb-12.ensures before t.placed;
+      retired = c.in_ok-absorb-13.ensures before t.retired;
+      used = c.in_ok-absorb-14.ensures t.used;
       places = places before t.places;
-    }) c.absorb-15.ensures
+    }) c.absorb-19.ensures

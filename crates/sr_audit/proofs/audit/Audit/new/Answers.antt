@@ -19,4 +19,8 @@ returns c = record {
   refused = c.new-13.ensures;
   rows = c.new-14.ensures;
   sweep = c.new-15.ensures;
+  sweeps = c.new-16.ensures;
+  placed = c.new-17.ensures;
+  retired = c.new-18.ensures;
+  used = c.new-19.ensures;
 }
