@@ -1,12 +1,12 @@
 -- The words at the beginning are those of the machine that begins with these pools, whatever changes it is to make.
-use Rattle.std.proofs.Common.{◌≡◌, ◌∙◌, ℕ, zero, suc, ◌+◌, ◌<◌, ◌==◌, ◌&&◌, nat_lt, Bool, true, false, List, [], ◌∷◌, slice_index, slice_index_or, unwrap_or, refl, sym, ap, if◌then◌else◌, arith}
+use Rattle.std.proofs.Common.{◌≡◌, ◌∙◌, ℕ, zero, suc, ◌+◌, ◌<◌, ◌==◌, ◌&&◌, nat_lt, Bool, true, false, List, [], ◌∷◌, slice_index, slice_index_or, unwrap_or, refl, sym, ap, subst, if◌then◌else◌, arith}
 use Rattle.std.proofs.lemmas.Bool.Decides.{nat_tests}
 use Rattle.sr_base.specs.Layout.{LayoutView}
 use Rattle.sr_base.specs.WordName.{HasWord}
 use Rattle.sr_base.specs.declared.change.Change.{Change}
 use Rattle.sr_core.specs.FirstPools.{first_words, listed}
 use Rattle.sr_core.specs.PlainWords.{ShowsWords}
-use Rattle.sr_law.specs.Pools.{pool_of, pools_from}
+use Rattle.sr_law.specs.Pools.{VipPools, pool_of, pools_from}
 use Rattle.sr_machine.specs.Config.{Config}
 use Rattle.sr_machine.specs.Names.{word_name}
 use Rattle.sr_machine.specs.Opening.{first_pool, opening_head, opening_words}
@@ -38,3 +38,10 @@ module _ (l : LayoutView) (first : List (List ℕ)) (changes : List Change) wher
       (sym (pool_one 0 first changes vip))
       ∙ grind (arith, nat_tests)
   opens list shows name h = shows name h
+
+-- the words of a layout and of pools are those of the machine that has them
+pub opens_so : (k : Config) (l : LayoutView) (pools : List VipPools) (list : List ℕ) → l ≡ k.layout → pools ≡ k.pools
+    → ShowsWords l list (opening_words (record { layout = l; pools = pools; changes = k.changes })) → ShowsWords k.layout list (opening_words k)
+opens_so k l pools list e f shows =
+    subst (λ (p : List VipPools). ShowsWords k.layout list (opening_words (record { layout = k.layout; pools = p; changes = k.changes }))) f
+    (subst (λ (m : LayoutView). ShowsWords m list (opening_words (record { layout = m; pools = pools; changes = k.changes }))) e shows)

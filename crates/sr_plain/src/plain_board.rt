@@ -10,6 +10,7 @@ ghost use Rattle.sr_machine.specs.Opening.{opening_words};
 ghost use Rattle.sr_plain.specs.Actors.{HasActor};
 
 use crate::PlainActor;
+use sr_acts::MachineConfig;
 use sr_base::{Layout, Pool, WordName};
 use sr_core::PlainWords;
 use sr_machine::Actor;
@@ -45,6 +46,16 @@ impl PlainBoard {
         }))) }
     {
         let words = PlainWords::opening(alloc, layout, first)?;
+        Ok(PlainBoard { words })
+    }
+
+    /// The words at the beginning of a machine.
+    pub fn opening(alloc: Global, config: &MachineConfig) -> Result<PlainBoard, AllocError>
+        ensures layout { IfOk result (λ b. b.layout ≡ config.now.layout) }
+        ensures words { IfOk result (λ b. ShowsWords config.now.layout b.words (opening_words config.now)) }
+    {
+        config.fits();
+        let words = PlainWords::opening_of(alloc, config.layout(), config.pools())?;
         Ok(PlainBoard { words })
     }
 

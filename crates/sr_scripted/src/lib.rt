@@ -14,4 +14,4 @@ mod played;
 
 pub use config::config_of;
 pub use ordering::in_order;
-pub use played::{Played, play_script, replay_script};
+pub use played::{Played, awaited_after, packets_ranges, play_script, replay_script};

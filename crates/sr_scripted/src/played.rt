@@ -82,13 +82,13 @@ fn left_of(alloc: Global, core: &Core, settled: Settled) -> Result<Played, Alloc
     ensures lines { IfOk result (λ played. played.lines.items ≡ reverse (newest_first (pipe_lines core.now.pipes ++ core.now.controller.lines))) }
     ensures awaited { IfOk result (λ played. settled ≡ settled_for played.awaited) }
 {
-    let awaited = awaited(settled)?;
+    let awaited = awaited_after(settled)?;
     let lines = in_order(core.all_lines(alloc)?)?;
     Ok(Played { lines, awaited })
 }
 
-// The ranges of the parts of packets' keys.
-fn packets_ranges(packets: &[Timed])
+/// The ranges of the parts of packets' keys.
+pub fn packets_ranges(packets: &[Timed])
     ensures { ArePackets packets.now }
 {
     for timed in packets {
@@ -96,8 +96,8 @@ fn packets_ranges(packets: &[Timed])
     }
 }
 
-// The key that an update waits for after turns that ended so, if one does.
-fn awaited(settled: Settled) -> Result<Option<Key>, AllocError>
+/// The key that an update waits for after turns that ended so, if one does.
+pub fn awaited_after(settled: Settled) -> Result<Option<Key>, AllocError>
     ensures { IfOk result (λ key. settled ≡ settled_for key) }
 {
     match settled {

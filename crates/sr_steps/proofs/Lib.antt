@@ -1,3 +1,3 @@
 mod Plays
-mod Runs
+pub mod Runs
 mod Settles

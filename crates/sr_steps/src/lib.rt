@@ -23,7 +23,7 @@ mod standing;
 
 pub use playing::{play, play_in_order};
 pub use replaying::run_in_order;
-pub use running::{Run, run_by_picks};
+pub use running::{Run, packets_on, run_by_picks};
 pub use settling::settle;
 pub use share::Share;
 pub use standing::Standing;

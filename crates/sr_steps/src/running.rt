@@ -85,13 +85,13 @@ pub(crate) fn shares(
 {
     let mut shares = Vec::new(alloc);
     for pipe in 0..pipes {
-        shares.push(Share::new(share(alloc, packets, round, pipes, pipe)?))?;
+        shares.push(Share::new(packets_on(alloc, packets, round, pipes, pipe)?))?;
     }
     Ok(shares)
 }
 
-// What a pipe handles of a round's packets.
-fn share(
+/// What a pipe handles of a round's packets.
+pub fn packets_on(
     alloc: Global,
     packets: &[Timed],
     round: &Round,

@@ -10,5 +10,5 @@ loop-pipe-preserved c =
     c.in_ok-push.ensures.items
     ∙ ap (λ ss. ss ++ c.new.result ∷ []) c.loop-pipe.invariant
     ∙ ap (λ s. map (λ i. filter (λ p. pipe_number p.key c.args.pipes == i) (packets_in c.args.packets.now c.args.round.now)) (range_with_len 0 c.loop-pipe.pipe) ++ s ∷ [])
-    (c.new.ensures ∙ c.in_ok-share.ensures)
+    (c.new.ensures ∙ c.in_ok-packets_on.ensures)
     ∙ sym (map-range_with_len_more (λ i. filter (λ p. pipe_number p.key c.args.pipes == i) (packets_in c.args.packets.now c.args.round.now)) 0 c.loop-pipe.pipe c.loop-pipe.pipe (omega arith))

@@ -1,0 +1,5 @@
+mod OneRound
+mod Opened
+mod Settled
+mod Told
+mod WholeRun
