@@ -96,8 +96,8 @@ fn wanted(words: &[&str]) -> Result<Option<(usize, Clause)>, Fail> {
     }
 }
 
-// The list after an edit.
-fn list_after(
+/// The list after an edit.
+pub(crate) fn list_after(
     alloc: Global,
     lines: &[Line],
     edit: &str,

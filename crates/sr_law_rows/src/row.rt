@@ -22,18 +22,26 @@ fn scene() -> Shape {
     }
 }
 
-/// What a row says: a shape, how many virtual addresses there are, the servers of the pools that its changes give, and the lines of the list.
+/// What a row says: a shape, how many virtual addresses there are, the changes, all due at 0, a clock, if any time passed, and the lines of the
+/// list.
 #[derive(Drop)]
 pub(crate) struct Row {
     shape: Shape,
     vips: u8,
-    given: Vec<u32>,
+    pub(crate) changes: Vec<Change>,
+    pub(crate) clock: Option<u64>,
     pub(crate) lines: Vec<Line>,
 }
 
 impl Row {
+    // A change more.
+    fn change(&mut self, what: What) -> Result<(), Fail> {
+        self.changes.push(Change { at_ms: 0, what })?;
+        Ok(())
+    }
+
     // One line of the row's text that says something of its setup. False where it is a line of the list.
-    fn sets(&mut self, words: &[&str]) -> Result<bool, Fail> {
+    fn sets(&mut self, alloc: Global, words: &[&str]) -> Result<bool, Fail> {
         match word(words, 0) {
             "pipes" => self.shape.pipes = small(words, 1)?,
             "buckets" => self.shape.buckets = number(words, 1)?,
@@ -41,7 +49,15 @@ impl Row {
             "ring" => self.shape.ring = number(words, 1)?,
             "lives" => self.shape.lives = small(words, 1)?,
             "vips" => self.vips = small(words, 1)?,
-            "change" => self.given.push(number(words, 1)?)?,
+            "change" => {
+                let pool = pool(alloc, number(words, 1)?)?;
+                self.change(What::Give { vip: 0, pool })?;
+            }
+            "outage" => {
+                let server = number(words, 1)?;
+                self.change(What::TakeDown { server })?;
+            }
+            "clock" => self.clock = Some(number(words, 1)? as u64),
             _ => return Ok(false),
         }
         Ok(true)
@@ -52,12 +68,13 @@ impl Row {
         let mut row = Row {
             shape: scene(),
             vips: 1,
-            given: Vec::new(alloc),
+            changes: Vec::new(alloc),
+            clock: None,
             lines: Vec::new(alloc),
         };
         let mut list = String::new(alloc);
         for line in text.split('\n') {
-            if !is_edit(line) && !row.sets(words(alloc, line)?.as_slice())? {
+            if !is_edit(line) && !row.sets(alloc, words(alloc, line)?.as_slice())? {
                 list.push_str(line)?;
                 list.push_str("\n")?;
             }
@@ -71,16 +88,6 @@ impl Row {
         let mut first = Vec::new(alloc);
         for _vip in 0..self.vips {
             first.push(pool(alloc, 0)?)?;
-        }
-        let mut given = Vec::new(alloc);
-        for server in &self.given {
-            given.push(Change {
-                at_ms: 0,
-                what: What::Give {
-                    vip: 0,
-                    pool: pool(alloc, *server)?,
-                },
-            })?;
         }
         let mut packets = Vec::new(alloc);
         for line in &self.lines {
@@ -97,7 +104,7 @@ impl Row {
         Ok(Setup {
             shape: self.shape,
             servers: 2,
-            pools: Pools::new(alloc, first.as_slice(), given.as_slice())?,
+            pools: Pools::new(alloc, first.as_slice(), self.changes.as_slice())?,
             packets,
         })
     }
